@@ -1,0 +1,4 @@
+pub mod Sets
+pub mod Right
+pub mod Walk
+pub mod Table

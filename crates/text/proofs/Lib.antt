@@ -1,0 +1,5 @@
+pub mod Table
+pub mod Lists
+pub mod Classes
+pub mod Orders
+pub mod Parts

@@ -1,0 +1,49 @@
+-- The characters of a field (document 01, "Bytes, records, fields"). Assumes nothing.
+use Prim.Native.Nat.{ℕ, _<_, max}
+use mathlib.Core.Path.{_≡_}
+use mathlib.Core.Bool.{Bool, true, false, cond, _&&_, _||_}
+use mathlib.Core.List.{List, [], _∷_}
+use lib.Dec.{leb, eqb}
+use lib.ListN.{getD}
+
+-- b is one of the codes from lo to hi
+abbrev pub from-to : ℕ → ℕ → ℕ → Bool
+from-to lo hi b = leb lo b && leb b hi
+
+-- b is in the list
+abbrev pub one-of : List ℕ → ℕ → Bool
+one-of [] b = false
+one-of (x ∷ xs) b = eqb b x || one-of xs b
+
+-- each byte of a list passes a test
+abbrev pub all : (ℕ → Bool) → List ℕ → Bool
+all p [] = true
+all p (x ∷ xs) = p x && all p xs
+
+-- space . , - ( ) / ' + : = ? ! " % & * ; < > _
+abbrev pub signs : List ℕ
+signs =
+    32 ∷ 46 ∷ 44 ∷ 45 ∷ 40 ∷ 41 ∷ 47 ∷ 39 ∷ 43 ∷ 58 ∷ 61 ∷ 63 ∷ 33 ∷ 34 ∷ 37 ∷ 38 ∷ 42 ∷ 59 ∷ 60 ∷ 62 ∷ 95 ∷ []
+
+-- 0-9
+unfoldable pub isDigit : ℕ → Bool
+isDigit b = from-to 48 57 b
+
+-- text characters: A-Z, a-z, 0-9 and the signs
+unfoldable pub isText : ℕ → Bool
+unfolding isDigit
+isText b = from-to 65 90 b || from-to 97 122 b || isDigit b || one-of signs b
+
+-- the class of a byte value: 0 a digit, 1 another text character, 2 none
+unfoldable pub classOf : ℕ → ℕ
+unfolding isDigit isText
+classOf b = cond (isDigit b) 0 (cond (isText b) 1 2)
+
+-- the highest class among some bytes
+unfoldable pub worst : List ℕ → ℕ
+worst [] = 0
+worst (b ∷ s) = max (classOf b) (worst s)
+
+-- a table that holds the class of each of the 256 byte values
+abbrev pub IsClassTable : List ℕ → Type 0
+IsClassTable t = (b : ℕ) → b < 256 → getD t b 0 ≡ classOf b
