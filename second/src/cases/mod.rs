@@ -1,0 +1,185 @@
+//! Seeded cases: the same seed gives the same stream on every machine.
+
+pub mod dice;
+pub mod draft;
+pub mod edits;
+pub mod faults;
+pub mod files;
+pub mod footers;
+pub mod keys;
+pub mod parts;
+pub mod sweep;
+pub mod values;
+
+use crate::bytes::{fields_of, records_of};
+use crate::sheet::{made_file, made_sheet};
+use crate::stream::{ASKED_LIMIT, CASE_KINDS, LENGTH_LIMIT};
+use dice::Dice;
+use files::{given, Given};
+use sweep::{swept, swept_field, Swept};
+
+/// What comes in one round: each kind of case, so many by the dice, so many from a sweep.
+const ROUND: [(&str, usize, usize); 7] = [
+    ("judge", 8, 2),
+    ("value", 3, 1),
+    ("field", 4, 2),
+    ("sum", 1, 0),
+    ("step", 3, 0),
+    ("write", 4, 1),
+    ("read", 3, 1),
+];
+
+/// One place in a round.
+struct Slot {
+    kind: &'static str,
+    is_swept: bool,
+}
+
+/// The maker of a stream: its case n hangs on the seed, the kinds asked for and n alone.
+pub struct Generator {
+    seed: u64,
+    round: Vec<Slot>,
+}
+
+impl Generator {
+    /// A generator of these kinds of case, a comma list; none named means all.
+    pub fn new(seed: u64, kinds: &str) -> Option<Generator> {
+        let names: Vec<&str> =
+            if kinds.is_empty() { CASE_KINDS.to_vec() } else { kinds.split(',').collect() };
+        let mut round = Vec::new();
+        for name in names {
+            let &(kind, by_dice, from_sweep) = ROUND.iter().find(|(kind, _, _)| *kind == name)?;
+            round.extend((0..by_dice + from_sweep).map(|place| Slot { kind, is_swept: place >= by_dice }));
+        }
+        Some(Generator { seed, round })
+    }
+
+    /// The first `count` cases as one stream.
+    pub fn stream(&self, count: u64) -> Vec<u8> {
+        (0..count).flat_map(|place| self.case(place)).collect()
+    }
+
+    /// One case, header and body.
+    pub fn case(&self, place: u64) -> Vec<u8> {
+        let dice = &mut Dice::new(self.seed, place);
+        let slot = (place % self.round.len() as u64) as usize;
+        let turn = self.turn(slot, (place / self.round.len() as u64) as usize);
+        match self.round[slot].kind {
+            "judge" => {
+                let (Given { flow, bytes }, _) = file(turn, 20, dice);
+                written(b"judge", &flow, "", &bytes)
+            }
+            "value" => {
+                let (Given { flow, bytes }, swept) = file(turn, 70, dice);
+                let (record, field) = swept.unwrap_or_else(|| asked_field(&bytes, dice));
+                written(b"value", &flow, &format!("\t{}\t{}", record, field), &bytes)
+            }
+            "field" => {
+                let case = match turn {
+                    Some(turn) => swept_field(turn, dice),
+                    None => parts::field(dice),
+                };
+                let words = format!("\t{}\t{}", case.mark, case.fixed.len());
+                with_fixed(written(b"field", case.form.as_bytes(), &words, &case.bytes), &case)
+            }
+            "sum" => {
+                let bytes = parts::sum_bytes(dice);
+                [format!("sum\t{}\n", bytes.len()).as_bytes(), &bytes].concat()
+            }
+            "step" => {
+                let (flow, kinds) = parts::step_list(dice);
+                written(b"step", &flow, "", &kinds)
+            }
+            "write" => {
+                let Given { flow, bytes } = sheet(turn, dice);
+                let room = room(made_file(&bytes).len(), dice);
+                written(b"write", &flow, &format!("\t{}", room), &bytes)
+            }
+            _ => {
+                let (Given { flow, bytes }, _) = file(turn, 45, dice);
+                let room = room(made_sheet(&bytes).len(), dice);
+                written(b"read", &flow, &format!("\t{}", room), &bytes)
+            }
+        }
+    }
+
+    /// Which turn of its sweep a slot takes in this round, if it is swept. Files and sheets
+    /// share one sweep, single fields have their own.
+    fn turn(&self, slot: usize, round: usize) -> Option<usize> {
+        let own = &self.round[slot];
+        let shares = |other: &&Slot| other.is_swept && (other.kind == "field") == (own.kind == "field");
+        let before = self.round[..slot].iter().filter(shares).count();
+        let all = self.round.iter().filter(shares).count();
+        // Short streams of other seeds begin elsewhere.
+        let start = Dice::new(self.seed, u64::MAX).below(1000);
+        if own.is_swept {
+            Some(start + round * all + before)
+        } else {
+            None
+        }
+    }
+}
+
+/// A file, with the record and field that the sweep changed if it did.
+fn file(turn: Option<usize>, good: usize, dice: &mut Dice) -> (Given, Option<(usize, usize)>) {
+    match turn {
+        Some(turn) => {
+            let Swept { draft, record, field } = swept(turn, dice);
+            (given(&draft, draft.file()), Some((record, field)))
+        }
+        None => (files::file(good, dice), None),
+    }
+}
+
+fn sheet(turn: Option<usize>, dice: &mut Dice) -> Given {
+    match turn {
+        Some(turn) => {
+            let draft = swept(turn, dice).draft;
+            given(&draft, draft.sheet())
+        }
+        None => files::sheet(45, dice),
+    }
+}
+
+/// A case: its name, a first word, the other words, the body's length and the body.
+fn written(name: &[u8], first: &[u8], words: &str, body: &[u8]) -> Vec<u8> {
+    assert!(body.len() <= LENGTH_LIMIT, "a body that no header can state");
+    let end = format!("{}\t{}\n", words, body.len());
+    [name, b"\t", first, end.as_bytes(), body].concat()
+}
+
+/// Puts the fixed value between the header and the field's bytes.
+fn with_fixed(mut written: Vec<u8>, case: &parts::FieldCase) -> Vec<u8> {
+    let place = written.len() - case.bytes.len();
+    written.splice(place..place, case.fixed.iter().copied());
+    written
+}
+
+/// A field to ask for: mostly one that is there, at times one past the end, or 0.
+fn asked_field(file: &[u8], dice: &mut Dice) -> (usize, usize) {
+    let records = records_of(file);
+    let record = asked(records.len(), dice);
+    let fields = records.get(record.wrapping_sub(1)).map_or(7, |record| fields_of(record).len());
+    (record, asked(fields, dice))
+}
+
+fn asked(count: usize, dice: &mut Dice) -> usize {
+    match dice.below(16) {
+        0 => *dice.pick(&[0, count + 1, count + 2, 255, 65_536, ASKED_LIMIT]),
+        1 => count,
+        _ => dice.between(1, count.max(1)),
+    }
+}
+
+/// Room for a result of this length: exact, one short, none, or more than it needs.
+fn room(length: usize, dice: &mut Dice) -> usize {
+    let room = match dice.below(10) {
+        0..=2 => length,
+        3 => length.saturating_sub(1),
+        4 => 0,
+        5 => dice.below(length + 1),
+        6 if dice.one_in(20) => LENGTH_LIMIT,
+        _ => length + dice.between(1, 300),
+    };
+    room.min(LENGTH_LIMIT)
+}

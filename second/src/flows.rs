@@ -1,0 +1,170 @@
+//! The six flows, in document 01's words: nested sets, field types, keys, last line feed.
+
+use crate::field::{Mark, Type};
+use crate::grammar::{any_number, either, in_turn, one, one_or_more, Kind, Set};
+use std::sync::{Arc, Mutex};
+
+pub struct Flow {
+    pub name: &'static str,
+    pub grammar: Arc<Set>,
+    /// One layout a kind, in the order in which the kinds stand in the grammar.
+    pub layouts: Vec<Layout>,
+    pub needs_last_line_feed: bool,
+}
+
+pub struct Layout {
+    pub kind: Kind,
+    /// The rules of the fields from field 2 on.
+    pub rules: Vec<Rule>,
+    pub key: Option<Key>,
+}
+
+pub struct Rule {
+    pub form: Type,
+    pub mark: Mark,
+}
+
+/// A key's field, counted with the kind, and the kind that heads the set it rises in.
+#[derive(Clone, Copy)]
+pub struct Key {
+    pub field: usize,
+    pub head: Kind,
+}
+
+impl Flow {
+    pub fn layout(&self, kind: &[u8]) -> Option<&Layout> {
+        self.layouts.iter().find(|layout| layout.kind == kind)
+    }
+}
+
+/// The flow of this name, if there is one.
+pub fn named(name: &[u8]) -> Option<&'static Flow> {
+    published().iter().find(|flow| flow.name.as_bytes() == name)
+}
+
+/// The six flows, read once from the words below.
+pub fn published() -> &'static [Flow] {
+    static READ: Mutex<Option<&'static [Flow]>> = Mutex::new(None);
+    let mut read = READ.lock().expect("no reader of the flows panics");
+    read.get_or_insert_with(|| Box::leak(Box::new(all_six())))
+}
+
+fn all_six() -> [Flow; 6] {
+    [p0012(), p0181(), p0133(), p0134(), p0138(), p0164()]
+}
+
+fn p0012() -> Flow {
+    let rows = either(any_number(one(b"GSP")), any_number(one(b"GS2")));
+    flow(
+        "P0012001",
+        ("", ""),
+        in_turn([one(b"ZPD"), one(b"HDR"), rows]),
+        vec![
+            layout(b"ZPD", "date, text(2) opt, text(2) opt, int(7), text(2)"),
+            layout(b"HDR", "int(10), text(2), int(13)"),
+            layout(b"GSP", "period, int(13), dec(14,4)").key(2, b"HDR"),
+            layout(b"GS2", "period, int(1) =0, dec(14,4)").key(2, b"HDR"),
+        ],
+    )
+    .with_last_line_feed()
+}
+
+fn p0181() -> Flow {
+    let sup_set = in_turn([one(b"SUP"), one_or_more(one(b"BMU"))]);
+    let gs7_set = in_turn([one(b"GS7"), any_number(sup_set)]);
+    flow(
+        "P0181002",
+        ("", ""),
+        one_or_more(gs7_set),
+        vec![
+            layout(b"GS7", "text(2)"),
+            layout(b"SUP", "text(4)").key(2, b"GS7"),
+            layout(b"BMU", "text(11), date, date opt, bol").key(2, b"SUP"),
+        ],
+    )
+    .with_last_line_feed()
+}
+
+fn p0133() -> Flow {
+    flow(
+        "P0133001",
+        ("=Z", "=Z"),
+        any_number(in_turn([one(b"SB1"), any_number(one(b"CM1"))])),
+        vec![
+            layout(b"SB1", "text(1) =H, text(1) =M, text(8), date, text(1) =M"),
+            layout(b"CM1", "text(2) opt, int(7), dec(4,1), int(7)"),
+        ],
+    )
+}
+
+fn p0134() -> Flow {
+    flow(
+        "P0134001",
+        ("=Z", "=Z"),
+        any_number(in_turn([one(b"SB2"), any_number(one(b"CM2"))])),
+        vec![
+            layout(b"SB2", "text(1) =M, text(8), date, text(1) =M"),
+            layout(b"CM2", "text(2) opt, int(7), int(7), dec(4,1), dec(4,1)"),
+        ],
+    )
+}
+
+fn p0138() -> Flow {
+    flow(
+        "P0138001",
+        ("=G", "=Z"),
+        in_turn([one(b"SUB"), one(b"TA2")]),
+        vec![layout(b"SUB", "text(1) =B, null, null, date, text(1) =M"), layout(b"TA2", "dec(5,4)")],
+    )
+}
+
+fn p0164() -> Flow {
+    flow(
+        "P0164001",
+        ("=G", "=Z"),
+        any_number(in_turn([one(b"SUB"), any_number(one(b"SP7"))])),
+        vec![
+            layout(b"SUB", "text(1) =B, text(1) =X, text(4), date, text(1) =M"),
+            layout(b"SP7", "text(2), text(4), text(1), date, text(2), int(10)").key(5, b"SUB"),
+        ],
+    )
+}
+
+/// A flow from its own part: every flow has ZHD before it and ZPT behind it.
+/// The roles are the marks of from role and to role.
+fn flow(name: &'static str, roles: (&str, &str), own: Arc<Set>, kinds: Vec<Layout>) -> Flow {
+    let header =
+        format!("text(8) ={}, text(1) {}, text(4), text(1) {}, text(4), datetime", name, roles.0, roles.1);
+    let mut layouts = vec![layout(b"ZHD", &header)];
+    layouts.extend(kinds);
+    layouts.push(layout(b"ZPT", "int(10), int(10)"));
+    Flow { name, grammar: in_turn([one(b"ZHD"), own, one(b"ZPT")]), layouts, needs_last_line_feed: false }
+}
+
+impl Flow {
+    fn with_last_line_feed(self) -> Flow {
+        Flow { needs_last_line_feed: true, ..self }
+    }
+}
+
+impl Layout {
+    fn key(self, field: usize, head: &[u8; 3]) -> Layout {
+        Layout { key: Some(Key { field, head: *head }), ..self }
+    }
+}
+
+fn layout(kind: &[u8; 3], fields: &str) -> Layout {
+    Layout { kind: *kind, rules: fields.split(", ").map(rule).collect(), key: None }
+}
+
+/// A rule in document 01's spelling: a type, then `opt`, `=` and a value, or nothing.
+fn rule(words: &str) -> Rule {
+    let (form, mark) = words.split_once(' ').unwrap_or((words, ""));
+    let mark = match mark.strip_prefix('=') {
+        Some(fixed) => Mark::Fixed(fixed.as_bytes().to_vec()),
+        None if mark == "opt" => Mark::Opt,
+        None => Mark::None,
+    };
+    let form = Type::spelled(form.as_bytes()).expect("the types above are spelled right");
+    Rule { form, mark }
+}

@@ -1,0 +1,16 @@
+//! The second program: document 01 by another route, to compare the screen with.
+
+pub mod answer;
+pub mod bytes;
+pub mod calendar;
+pub mod cases;
+pub mod census;
+pub mod compare;
+pub mod field;
+pub mod flows;
+pub mod grammar;
+pub mod judge;
+pub mod refusal;
+pub mod sheet;
+pub mod step;
+pub mod stream;

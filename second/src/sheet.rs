@@ -1,0 +1,71 @@
+//! Sheets: a file made from a sheet, and a sheet read from a file.
+
+use crate::bytes::{checksum, records_of, BAR, LINE_FEED, TAB};
+use crate::flows::named;
+use crate::judge::judge;
+use crate::refusal::Refusal;
+
+pub const SHEET_LIMIT: usize = 1_048_000;
+
+/// An acceptance: the records of the file judged, footer in, and the bytes put out.
+#[derive(Clone, Copy, Debug, PartialEq, Eq)]
+pub struct Done {
+    pub records: usize,
+    pub bytes: usize,
+}
+
+/// Writes the file of a sheet into the room. A refusal leaves the room as it was.
+pub fn write(flow: &[u8], sheet: &[u8], room: &mut [u8]) -> Result<Done, Refusal> {
+    if named(flow).is_none() {
+        return Err(Refusal::whole(1));
+    }
+    if sheet.len() > SHEET_LIMIT {
+        return Err(Refusal::whole(2));
+    }
+    let lines = records_of(sheet);
+    if let Some(place) = lines.iter().position(|line| line.contains(&BAR)) {
+        return Err(Refusal::at(16, place + 1, 0));
+    }
+    if !sheet.is_empty() && !sheet.ends_with(&[LINE_FEED]) {
+        return Err(Refusal::at(15, lines.len(), 0));
+    }
+    let file = made_file(sheet);
+    let records = judge(flow, &file)?;
+    put(&file, records, room)
+}
+
+/// Reads the sheet of a file into the room. A refusal leaves the room as it was.
+pub fn read(flow: &[u8], file: &[u8], room: &mut [u8]) -> Result<Done, Refusal> {
+    let records = judge(flow, file)?;
+    put(&made_sheet(file), records, room)
+}
+
+/// The sheet with tabs turned to bars and a right footer with its line feed.
+pub fn made_file(sheet: &[u8]) -> Vec<u8> {
+    let mut file = turned(sheet, TAB, BAR);
+    let records = records_of(&file);
+    let footer = format!("ZPT|{}|{}\n", records.len() + 1, checksum(records));
+    file.extend(footer.into_bytes());
+    file
+}
+
+/// All records but the last, bars turned to tabs, each with its line feed.
+pub fn made_sheet(file: &[u8]) -> Vec<u8> {
+    let records = records_of(file);
+    let mut sheet = Vec::with_capacity(file.len());
+    for record in &records[..records.len().saturating_sub(1)] {
+        sheet.extend(turned(record, BAR, TAB));
+        sheet.push(LINE_FEED);
+    }
+    sheet
+}
+
+fn turned(bytes: &[u8], from: u8, to: u8) -> Vec<u8> {
+    bytes.iter().map(|&byte| if byte == from { to } else { byte }).collect()
+}
+
+fn put(result: &[u8], records: usize, room: &mut [u8]) -> Result<Done, Refusal> {
+    let part = room.get_mut(..result.len()).ok_or_else(|| Refusal::whole(17))?;
+    part.copy_from_slice(result);
+    Ok(Done { records, bytes: result.len() })
+}

@@ -1,0 +1,178 @@
+//! The generator: good drafts are good, every refusal is reached, the same seed is the same stream.
+
+use second::bytes::{checksum, is_text, records_of};
+use second::cases::dice::Dice;
+use second::cases::draft::Draft;
+use second::cases::faults::{put_fault, spoil, Place, PLACES};
+use second::cases::values::TEXT;
+use second::cases::Generator;
+use second::census::census;
+use second::flows::published;
+use second::judge::{judge, FILE_LIMIT};
+use second::sheet::{made_file, made_sheet, read, write, SHEET_LIMIT};
+use second::stream::{cases_of, Ask, CASE_KINDS};
+
+fn generator(seed: u64, kinds: &str) -> Generator {
+    Generator::new(seed, kinds).expect("these kinds of case exist")
+}
+
+#[test]
+fn the_same_seed_gives_the_same_stream() {
+    assert_eq!(generator(7, "").stream(400), generator(7, "").stream(400));
+    assert_ne!(generator(7, "").stream(400), generator(8, "").stream(400));
+    assert!(Generator::new(1, "judge,reed").is_none());
+}
+
+/// A fixed figure, so that another machine is seen to make the same stream.
+/// It moves with every change of the generator.
+#[test]
+fn the_stream_of_seed_1_on_any_machine() {
+    let stream = generator(1, "").stream(1000);
+    let sum = stream
+        .iter()
+        .fold(0xcbf2_9ce4_8422_2325_u64, |sum, &byte| (sum ^ u64::from(byte)).wrapping_mul(0x0100_0000_01b3));
+    assert_eq!((stream.len(), sum), (4_659_094, 15_775_883_806_260_506_636));
+}
+
+#[test]
+fn only_the_kinds_asked_for() {
+    for (place, kind) in CASE_KINDS.iter().enumerate() {
+        let stream = generator(3, kind).stream(60);
+        assert!(cases_of(&stream).all(|case| case.expect("a good header").ask.kind() == place));
+    }
+}
+
+#[test]
+fn every_refusal_is_reached() {
+    let stream = generator(8, "").stream(4000);
+    let census = census(&stream).unwrap_or_else(|_| panic!("a good stream"));
+    let reader = [1, 2, 3, 4, 5, 6, 7, 8, 9, 10, 11, 12, 13, 14, 15];
+    let all: [(&str, Vec<usize>); 6] = [
+        ("judge", reader.to_vec()),
+        ("read", [&reader[..], &[17]].concat()),
+        ("value", [&reader[..], &[18]].concat()),
+        ("write", vec![1, 2, 3, 4, 5, 6, 7, 8, 9, 10, 11, 12, 13, 15, 16, 17]),
+        ("field", vec![7, 8, 9, 10, 18]),
+        ("step", vec![1]),
+    ];
+    for (kind, numbers) in all {
+        assert!(census.taken(kind) > 0, "{}", kind);
+        for number in numbers {
+            assert!(census.refused(kind, number) > 0, "{} {}", kind, number);
+        }
+    }
+    assert_eq!(census.not_reached(), [0; 0]);
+}
+
+#[test]
+fn good_drafts_are_good_there_and_back() {
+    for (place, flow) in published().iter().enumerate() {
+        for turn in 0..60 {
+            let dice = &mut Dice::new(place as u64, turn);
+            let draft = Draft::good(flow, [0, 100, 500, 3000][turn as usize % 4], dice);
+            let file = draft.file();
+            let name = flow.name.as_bytes();
+            assert_eq!(judge(name, &file), Ok(draft.records.len()));
+            let mut room = vec![0; file.len() + 1];
+            let sheet = read(name, &file, &mut room).unwrap();
+            let sheet = room[..sheet.bytes].to_vec();
+            let made = write(name, &sheet, &mut room).unwrap();
+            let ended = if draft.last_line_feed { file } else { [&file[..], b"\n"].concat() };
+            assert_eq!(&room[..made.bytes], &ended[..]);
+            assert_eq!(made_sheet(&made_file(&sheet)), sheet);
+            assert_eq!(made.records, draft.records.len());
+        }
+    }
+}
+
+#[test]
+fn drafts_of_an_exact_length() {
+    for turn in 0..3 {
+        let dice = &mut Dice::new(5, turn);
+        let draft = Draft::of_length(FILE_LIMIT, false, dice);
+        assert_eq!(draft.file().len(), FILE_LIMIT);
+        assert_eq!(judge(draft.flow.name.as_bytes(), &draft.file()), Ok(draft.records.len()));
+        let draft = Draft::of_length(SHEET_LIMIT, true, dice);
+        assert_eq!(draft.sheet().len(), SHEET_LIMIT);
+        assert!(write(draft.flow.name.as_bytes(), &draft.sheet(), &mut vec![0; 1_048_100]).is_ok());
+    }
+}
+
+/// The number that a draft is refused with.
+fn number_of(draft: &Draft) -> u8 {
+    judge(draft.flow.name.as_bytes(), &draft.file()).map_or_else(|refusal| refusal.number, |_| 0)
+}
+
+#[test]
+fn each_fault_brings_its_refusal_at_first_middle_and_last_record() {
+    for number in 3..=15 {
+        for place in [Place::First, Place::Middle, Place::Last] {
+            let hits = (0..120).filter(|&turn| {
+                let dice = &mut Dice::new(turn, u64::from(number));
+                let mut draft = Draft::good(dice.pick(published()), 800, dice);
+                draft.last_line_feed = true;
+                put_fault(&mut draft, number, place, dice) && number_of(&draft) == number
+            });
+            assert!(hits.count() >= 20, "fault {}", number);
+        }
+    }
+}
+
+/// Whether two faults can stand in one file: without a footer there is no wrong one.
+fn can_meet(one: u8, other: u8) -> bool {
+    !(matches!(one, 12 | 13) && other == 14)
+}
+
+#[test]
+fn each_pair_of_faults_that_can_meet() {
+    assert_eq!(PLACES.len(), 4);
+    for one in 3..=15 {
+        for other in (one + 1..=15).filter(|&other| can_meet(one, other)) {
+            let hits = (0..60).filter(|&turn| {
+                let dice = &mut Dice::new(turn, u64::from(one) * 100 + u64::from(other));
+                let long = &published()[..2];
+                let mut draft = Draft::good(dice.pick(long), 800, dice);
+                spoil(&mut draft, &[one, other], dice);
+                [one, other].contains(&number_of(&draft))
+            });
+            assert!(hits.count() >= 20, "faults {} and {}", one, other);
+        }
+    }
+}
+
+#[test]
+fn streams_hold_long_files_and_stay_small() {
+    let stream = generator(2, "judge,write").stream(1500);
+    let lengths: Vec<usize> = cases_of(&stream)
+        .map(|case| match case.expect("a good header").ask {
+            Ask::Judge { file, .. } => file.len(),
+            Ask::Write { sheet, .. } => sheet.len(),
+            _ => 0,
+        })
+        .collect();
+    assert!(lengths.iter().any(|&length| length > FILE_LIMIT));
+    assert!(lengths.iter().any(|&length| (SHEET_LIMIT..=FILE_LIMIT).contains(&length)));
+    assert!(lengths.iter().any(|&length| (60_000..80_000).contains(&length)));
+    assert!(stream.len() < 15_000_000);
+}
+
+#[test]
+fn the_text_characters_in_their_order() {
+    let all: Vec<u8> = (0..=255).filter(|&byte| is_text(byte)).collect();
+    assert_eq!(TEXT, &all[..]);
+}
+
+#[test]
+fn checksums_by_columns() {
+    // By another route: each byte of the sum is the exclusive-or of one column of the pieces.
+    let stream = generator(4, "sum").stream(200);
+    for case in cases_of(&stream) {
+        if let Ask::Sum { bytes } = case.expect("a good header").ask {
+            let mut columns = [0; 4];
+            for record in records_of(bytes) {
+                record.iter().enumerate().for_each(|(place, byte)| columns[place % 4] ^= byte);
+            }
+            assert_eq!(checksum(records_of(bytes)), u32::from_be_bytes(columns));
+        }
+    }
+}

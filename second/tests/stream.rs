@@ -1,0 +1,159 @@
+//! The stream's form: headers, answers to the letter, the census and the comparison.
+
+mod common;
+use common::*;
+use second::answer::answer;
+use second::census::census;
+use second::compare::compare;
+use second::stream::{cases_of, BadHeader};
+
+fn case(header: &str, body: &[u8]) -> Vec<u8> {
+    [header.as_bytes(), b"\n", body].concat()
+}
+
+/// The answers to a stream without a bad header.
+fn answers(stream: &[u8]) -> Vec<u8> {
+    cases_of(stream).flat_map(|case| answer(&case.expect("a good header").ask)).collect()
+}
+
+fn answered(header: &str, body: &[u8]) -> String {
+    String::from_utf8(answers(&case(header, body))).expect("plain text")
+}
+
+fn is_bad(stream: &[u8]) -> bool {
+    matches!(cases_of(stream).last(), Some(Err(BadHeader)))
+}
+
+#[test]
+fn answers_to_files() {
+    assert_eq!(answered("judge\tP0138001\t88", EXAMPLE), "ok\t0\t4\t0\n");
+    assert_eq!(answered("judge\t\t0", b""), "refused\t1\t0\t0\n");
+    assert_eq!(answered("judge\tP0138001\t0", b""), "refused\t14\t1\t0\n");
+    assert_eq!(answered("value\tP0138001\t1\t1\t88", EXAMPLE), "ok\t0\ttext\tZHD\n");
+    assert_eq!(answered("value\tP0138001\t2\t3\t88", EXAMPLE), "ok\t0\tempty\t\n");
+    assert_eq!(answered("value\tP0138001\t3\t2\t88", EXAMPLE), "ok\t0\tnumber\t10250\n");
+    assert_eq!(answered("value\tP0138001\t9\t2\t88", EXAMPLE), "refused\t18\t9\t2\n");
+}
+
+#[test]
+fn answers_to_fields() {
+    assert_eq!(answered("field\tint(2)\t-\t0\t3", b"-99"), "ok\t0\tnumber\t-99\n");
+    assert_eq!(answered("field\tbol\t-\t0\t1", b"F"), "ok\t0\ttruth\tF\n");
+    assert_eq!(answered("field\tbol\topt\t0\t0", b""), "ok\t0\tempty\t\n");
+    assert_eq!(answered("field\ttext(4)\t=\t2\t2", b"ABAB"), "ok\t0\ttext\tAB\n");
+    assert_eq!(answered("field\ttext(4)\t=\t2\t1", b"ABA"), "refused\t10\t0\t0\n");
+    assert_eq!(answered("field\tdec(4,4)\t-\t0\t0", b""), "refused\t18\t0\t0\n");
+}
+
+#[test]
+fn answers_to_sums_and_steps() {
+    assert_eq!(answered("sum\t6", b"ABCDE\n"), "ok\t0\t71451460\t0\n");
+    assert_eq!(answered("step\tP0138001\t0", b""), "ok\t0\topen\tZHD\n");
+    assert_eq!(answered("step\tP0133001\t6", b"ZHDZPT"), "ok\t0\tcomplete\t\n");
+    assert_eq!(answered("step\tP0181002\t6", b"ZHDGS7"), "ok\t0\topen\tGS7SUPZPT\n");
+    assert_eq!(answered("step\tP0133001\t6", b"ZHDTA2"), "stopped\t0\t2\t0\n");
+    assert_eq!(answered("step\tP0133002\t6", b"ZHDTA2"), "refused\t1\t0\t0\n");
+}
+
+#[test]
+fn answers_to_sheets() {
+    let sheet = sheet_of(&lines("P0138001"));
+    let file = String::from_utf8(EXAMPLE.to_vec()).unwrap();
+    assert_eq!(answered("write\tP0138001\t88\t72", &sheet), format!("ok\t0\t4\t88\t1\n{}\n", file));
+    assert_eq!(answered("write\tP0138001\t87\t72", &sheet), "refused\t17\t0\t0\t1\n");
+    let text = String::from_utf8(sheet).unwrap();
+    assert_eq!(answered("read\tP0138001\t100\t88", EXAMPLE), format!("ok\t0\t4\t72\t1\n{}\n", text));
+    assert_eq!(answered("read\tP0138001\t0\t0", b""), "refused\t14\t1\t0\t1\n");
+}
+
+#[test]
+fn headers_that_cannot_be_read() {
+    let bad = [
+        "",
+        "judge",
+        "judge\tP0138001",
+        "judge\tP0138001\t",
+        "judge\tP0138001\t-1",
+        "judge\tP0138001\t1114113",
+        "judge\tP0138001\t0\t0",
+        "judge\tP0138001\t0x0",
+        "Judge\tP0138001\t0",
+        "judge P0138001 0",
+        "sum",
+        "sum\t\t0",
+        "field\ttext\t-\t0\t0",
+        "field\ttext()\t-\t0\t0",
+        "field\ttext(1234567890)\t-\t0\t0",
+        "field\tText(1)\t-\t0\t0",
+        "field\tdec(4)\t-\t0\t0",
+        "field\tint(1,1)\t-\t0\t0",
+        "field\tdate(8)\t-\t0\t0",
+        "field\tint(+1)\t-\t0\t0",
+        "field\tdate\t\t0\t0",
+        "field\tdate\topt\t0",
+        "field\tdate\tkey\t0\t0",
+        "value\tP0138001\t1000000001\t1\t0",
+        "value\tP0138001\t1\t0",
+        "write\tP0138001\t0",
+        "read\tP0138001\t1114113\t0",
+        "step\tP0138001\t0\r",
+    ];
+    for header in bad {
+        assert!(is_bad(&case(header, b"")), "{:?}", header);
+    }
+    assert!(is_bad(b"sum\t0"), "no line feed");
+    assert!(is_bad(b"sum\t3\nab"), "a body cut short");
+    assert!(is_bad(b"sum\t3\nabc\n"), "a line feed too many");
+    assert!(!is_bad(b"sum\t3\nabc"));
+    assert!(cases_of(b"").next().is_none());
+}
+
+#[test]
+fn nothing_is_answered_behind_a_bad_header() {
+    assert_eq!(cases_of(b"sum\t0\nbad\nsum\t0\n").count(), 2);
+}
+
+#[test]
+fn the_comparison_finds_every_difference() {
+    let sheet = sheet_of(&lines("P0138001"));
+    let stream = [
+        case("judge\tP0138001\t88", EXAMPLE),
+        case("write\tP0138001\t100\t72", &sheet),
+        case("sum\t3", b"abc"),
+        case("step\tP0133001\t3", b"ZHD"),
+    ]
+    .concat();
+    let right = answers(&stream);
+    let same = compare(&stream, &right);
+    assert_eq!((same.cases, same.differences, same.kept.len()), (4, 0, 0));
+    for place in 0..right.len() {
+        let mut other = right.clone();
+        other[place] ^= 1;
+        assert!(compare(&stream, &other).differences > 0, "byte {}", place);
+        assert!(compare(&stream, &right[..place]).differences > 0, "cut at {}", place);
+    }
+    let one = compare(&stream, &replaced(&right, "TA2|1.0250", "TA2|1.0251"));
+    assert_eq!(one.differences, 1);
+    assert_eq!(one.kept, case("write\tP0138001\t100\t72", &sheet));
+    let none_written =
+        replaced(&right, &format!("4\t88\t1\n{}", String::from_utf8_lossy(EXAMPLE)), "4\t0\t1\n");
+    assert_eq!(compare(&stream, &none_written).differences, 1);
+    assert_eq!(compare(&stream, &[&right[..], b"more"].concat()).differences, 1);
+}
+
+#[test]
+fn the_comparison_expects_bad_header_where_it_is_due() {
+    let stream = b"sum\t0\nbad\n";
+    assert_eq!(compare(stream, b"ok\t0\t0\t0\nbad header\n").differences, 0);
+    assert_eq!(compare(stream, b"ok\t0\t0\t0\n").differences, 1);
+}
+
+#[test]
+fn the_census_counts_by_kind_and_number() {
+    let stream =
+        [case("judge\tP0138001\t88", EXAMPLE), case("judge\tP0138001\t0", b""), case("sum\t0", b"")].concat();
+    let census = census(&stream).unwrap_or_else(|_| panic!("a good stream"));
+    assert_eq!((census.taken("judge"), census.taken("sum"), census.refused("judge", 14)), (1, 1, 1));
+    assert_eq!(census.not_reached().len(), 17);
+    assert!(census.table().ends_with("refusals not reached: 1 2 3 4 5 6 7 8 9 10 11 12 13 15 16 17 18\n"));
+}
