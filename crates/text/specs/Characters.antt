@@ -3,6 +3,8 @@ use Prim.Native.Nat.{ℕ, _<_, max}
 use mathlib.Core.Path.{_≡_}
 use mathlib.Core.Bool.{Bool, true, false, cond, _&&_, _||_}
 use mathlib.Core.List.{List, [], _∷_}
+use Prim.Native.Char.{code}
+use Prim.Native.String.{String, [] as none, _∷_ as _first_}
 use lib.Dec.{leb, eqb}
 use lib.ListN.{getD}
 
@@ -20,10 +22,14 @@ abbrev pub all : (ℕ → Bool) → List ℕ → Bool
 all p [] = true
 all p (x ∷ xs) = p x && all p xs
 
--- space . , - ( ) / ' + : = ? ! " % & * ; < > _
+-- the bytes of a text that is written out
+abbrev pub bytes : String → List ℕ
+bytes none = []
+bytes (c first s) = code c ∷ bytes s
+
+-- the text characters that are neither letters nor digits
 abbrev pub signs : List ℕ
-signs =
-    32 ∷ 46 ∷ 44 ∷ 45 ∷ 40 ∷ 41 ∷ 47 ∷ 39 ∷ 43 ∷ 58 ∷ 61 ∷ 63 ∷ 33 ∷ 34 ∷ 37 ∷ 38 ∷ 42 ∷ 59 ∷ 60 ∷ 62 ∷ 95 ∷ []
+signs = bytes " .,-()/'+:=?!\"%&*;<>_"
 
 -- 0-9
 unfoldable pub isDigit : ℕ → Bool

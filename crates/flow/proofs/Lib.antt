@@ -1,0 +1,11 @@
+pub mod Held
+pub mod KindsIn
+pub mod WalkLaws
+pub mod Listing
+pub mod Followers
+pub mod Agree
+pub mod Chosen
+pub mod Demand3
+pub mod Answers
+pub mod OneStep
+pub mod Examples

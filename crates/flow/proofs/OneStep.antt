@@ -1,0 +1,64 @@
+-- No second answer of the step meets its contract. Assumes nothing.
+use Prim.Native.Nat.{ℕ, suc, _*_}
+use mathlib.Core.Path.{_≡_, refl, sym, ap, _∙_, subst}
+use mathlib.Core.Bool.{Bool, true, false}
+use mathlib.Core.List.{List, _∷_, [], _++_}
+use lib.Dec.{T}
+use lib.ListN.{length, drop}
+use Rattle.grammar.specs.Right.{Completes}
+use Rattle.grammar.proofs.Walks.{one-place, stopped-or-begun}
+use Rattle.flow.specs.declared.StepAnswer.{StepAnswer}
+use Rattle.flow.specs.declared.StepAnswer.the-variants.{Refused, Stopped, Through}
+use Rattle.flow.specs.Publication.{Flow}
+use Rattle.flow.specs.Flows.{held, flowNamed}
+use Rattle.flow.specs.Step.{kindsIn, endToEnd, StoppedAt, WentThrough, StepRight}
+use Rattle.flow.proofs.Chosen.{chosen-one}
+
+-- no name is held and not held
+never : (b : Bool) → b ≡ true → b ≡ false → ⊥
+never b e q = subst T (sym e ∙ q) tt
+
+-- two tests that hold together are the same
+same-test : (a b : Bool) → (T a → T b) → (T b → T a) → a ≡ b
+same-test true true f g = refl
+same-test true false f g = absurd (f tt)
+same-test false true f g = absurd (g tt)
+same-test false false f g = refl
+
+-- a flow, a list of kinds and the bytes that were lent
+module _ (f : Flow) (ks : List (List ℕ)) (old : List ℕ) where
+  one-stop : (p q : ℕ) (new other : List ℕ) → StoppedAt f ks p old new → StoppedAt f ks q old other
+      → (Stopped p ≡ Stopped q) × (new ≡ other)
+  one-stop p q new other s t = (
+    ap Stopped (s .counted ∙ ap suc (one-place (f .grammar) ks (s .before) (t .before) (s .right) (t .right)) ∙ sym (t .counted)),
+    s .kept ∙ sym (t .kept),
+  )
+
+  stop-or-go : (p count : ℕ) (complete : Bool) (new other : List ℕ) → StoppedAt f ks p old new → WentThrough f ks count complete old other
+      → ⊥
+  stop-or-go p count complete new other s w = stopped-or-begun (f .grammar) ks (s .before) (s .right) (w .right .begun)
+
+  one-way : (m n : ℕ) (a b : Bool) (new other : List ℕ) → WentThrough f ks m a old new → WentThrough f ks n b old other
+      → (Through m a ≡ Through n b) × (new ≡ other)
+  one-way m n a b new other v w =
+      let e : v .follow ≡ w .follow = chosen-one (λ k. Completes (f .grammar) (ks ++ (k ∷ []))) (v .chosen) (w .chosen) in
+      let c : m ≡ n = v .listed .counted ∙ ap length e ∙ sym (w .listed .counted) in
+      let t : a ≡ b = same-test a b (λ x. w .right .whole .1 (v .right .whole .0 x)) (λ x. v .right .whole .1 (w .right .whole .0 x)) in
+      (λ i. Through (c i) (t i), v .listed .written ∙ (λ i. endToEnd (e i) ++ drop (3 * c i) old) ∙ sym (w .listed .written))
+
+-- two answers that meet the contract are the same, and so are the lent bytes after them
+pub one-step : (name bytes old : List ℕ) (a b : StepAnswer) (new other : List ℕ)
+    → StepRight name bytes a old new → StepRight name bytes b old other → (a ≡ b) × (new ≡ other)
+one-step name bytes old (Refused m) (Refused n) new other s t = (ap Refused (s .1 ∙ sym (t .1)), s .2 ∙ sym (t .2))
+one-step name bytes old (Refused m) (Stopped q) new other s t = absurd (never (held name) (t .0) (s .0))
+one-step name bytes old (Refused m) (Through n b) new other s t = absurd (never (held name) (t .0) (s .0))
+one-step name bytes old (Stopped p) (Refused n) new other s t = absurd (never (held name) (s .0) (t .0))
+one-step name bytes old (Stopped p) (Stopped q) new other s t =
+    one-stop (flowNamed name) (kindsIn bytes) old p q new other (s .1) (t .1)
+one-step name bytes old (Stopped p) (Through n b) new other s t =
+    absurd (stop-or-go (flowNamed name) (kindsIn bytes) old p n b new other (s .1) (t .1))
+one-step name bytes old (Through m a) (Refused n) new other s t = absurd (never (held name) (s .0) (t .0))
+one-step name bytes old (Through m a) (Stopped q) new other s t =
+    absurd (stop-or-go (flowNamed name) (kindsIn bytes) old q m a other new (t .1) (s .1))
+one-step name bytes old (Through m a) (Through n b) new other s t =
+    one-way (flowNamed name) (kindsIn bytes) old m n a b new other (s .1) (t .1)

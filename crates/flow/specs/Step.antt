@@ -1,0 +1,55 @@
+-- What the step of the flow table must answer, by the grammar alone (document 01, last lines of "Refusal numbers"). Assumes nothing.
+use Prim.Native.Nat.{ℕ, suc, _*_}
+use mathlib.Core.Path.{_≡_}
+use mathlib.Core.Bool.{Bool, true, false}
+use mathlib.Core.List.{List, [], _∷_, _++_}
+use lib.ListN.{length, drop}
+use Rattle.grammar.specs.Right.{Completes, StoppedRight, ThroughRight}
+use Rattle.flow.specs.Publication.{Flow, names}
+use Rattle.flow.specs.Flows.{held, flowNamed}
+use Rattle.flow.specs.declared.StepAnswer.{StepAnswer}
+use Rattle.flow.specs.declared.StepAnswer.the-variants.{Refused, Stopped, Through}
+
+-- kinds, three bytes each, end to end; one that is cut short is a kind of its own, foreign to every flow
+unfoldable pub kindsIn : List ℕ → List (List ℕ)
+kindsIn [] = []
+kindsIn (a ∷ []) = (a ∷ []) ∷ []
+kindsIn (a ∷ b ∷ []) = (a ∷ b ∷ []) ∷ []
+kindsIn (a ∷ b ∷ c ∷ s) = (a ∷ b ∷ c ∷ []) ∷ kindsIn s
+
+-- of some kinds, those that meet a condition, in their order
+pub data Chosen (P : List ℕ → Type 0) : List (List ℕ) → List (List ℕ) → Type 0 where
+  none : Chosen P [] []
+  takes : {k : List ℕ} {ks out : List (List ℕ)} → P k → Chosen P ks out → Chosen P (k ∷ ks) (k ∷ out)
+  passes : {k : List ℕ} {ks out : List (List ℕ)} → (P k → ⊥) → Chosen P ks out → Chosen P (k ∷ ks) out
+
+-- names end to end
+abbrev pub endToEnd : List (List ℕ) → List ℕ
+endToEnd [] = []
+endToEnd (n ∷ ns) = n ++ endToEnd ns
+
+-- names counted and written end to end to the front of some bytes; bytes past them are as before
+pub record Lists (ns : List (List ℕ)) (count : ℕ) (old new : List ℕ) : Type 0 where
+  pub counted : count ≡ length ns
+  pub written : new ≡ endToEnd ns ++ drop (3 * count) old
+
+-- the list went through: whether it is complete, and in the lent bytes the kinds that may follow, in the layout's order
+pub record WentThrough (f : Flow) (ks : List (List ℕ)) (count : ℕ) (complete : Bool) (old new : List ℕ) : Type 0 where
+  pub right : ThroughRight (f .grammar) ks complete
+  pub follow : List (List ℕ)
+  pub chosen : Chosen (λ k. Completes (f .grammar) (ks ++ (k ∷ []))) (names (f .kinds)) follow
+  pub listed : Lists follow count old new
+
+-- the list stopped at a place counted from 1
+pub record StoppedAt (f : Flow) (ks : List (List ℕ)) (place : ℕ) (old new : List ℕ) : Type 0 where
+  pub before : ℕ
+  pub counted : place ≡ suc before
+  pub right : StoppedRight (f .grammar) ks before
+  pub kept : new ≡ old
+
+-- what each answer of the step says in document 01's terms, and the bytes that were lent: 1 where we hold no such flow
+abbrev pub StepRight : List ℕ → List ℕ → StepAnswer → List ℕ → List ℕ → Type 0
+StepRight name bytes (Refused number) old new = (held name ≡ false) × (number ≡ 1) × (new ≡ old)
+StepRight name bytes (Stopped place) old new = (held name ≡ true) × StoppedAt (flowNamed name) (kindsIn bytes) place old new
+StepRight name bytes (Through count complete) old new =
+    (held name ≡ true) × WentThrough (flowNamed name) (kindsIn bytes) count complete old new

@@ -1,0 +1,153 @@
+-- The kind of a name: found, and compared as one number. Assumes nothing.
+use Prim.Native.Nat.{ℕ, zero, suc, _+_, _-_, _*_, _≤_, _<_, _/_, _%_}
+use mathlib.Core.Path.{_≡_, refl, sym, ap, _∙_, subst}
+use mathlib.Core.Bool.{Bool, true, false, cond}
+use mathlib.Core.List.{List, [], _∷_}
+use native.Mathlib.Nat.{add-zero}
+use native.Mathlib.Numerals.{add-one}
+use native.Mathlib.Omega.{arith}
+use lib.Dec.{T}
+use lib.ListN.{length, getD, drop, length-drop}
+use lib.Seq.{getD-drop}
+use Rattle.text.specs.Order.{sameBytes}
+use Rattle.text.proofs.Lists.{same→≡, same-refl}
+use Rattle.layout.specs.Layout.{KindRow, Layout, row, blank, find, kindNamed}
+use Rattle.layout.specs.Numbers.{word, cell, nameOf, rowOf, rowCount, layoutOf}
+use Rattle.layout.proofs.Rows.{rows-length, row-of, rows-drop, rows-done}
+
+-- a name that is found stands among the rows, and there
+module _ (name : List ℕ) where
+  bound-go : (i m n : ℕ) (b : Bool) → 1 ≤ i → m < suc i + n → cond b i m < i + suc n
+  bound-go i m n true h k = omega arith
+  bound-go i m n false h k = omega arith
+
+  find-bound : (i : ℕ) (rs : List KindRow) → 1 ≤ i → find name i rs < i + length rs
+  unfolding find
+  find-bound i [] h = omega arith
+  find-bound i (r ∷ rs) h = bound-go i (find name (suc i) rs) (length rs) (sameBytes (r .name) name) h (find-bound (suc i) rs (omega arith))
+
+  least-go : (i m : ℕ) (b : Bool) → ((m ≡ 0 → ⊥) → suc i ≤ m) → (cond b i m ≡ 0 → ⊥) → i ≤ cond b i m
+  least-go i m true later h = omega arith
+  least-go i m false later h = omega (arith, later h)
+
+  find-least : (i : ℕ) (rs : List KindRow) → (find name i rs ≡ 0 → ⊥) → i ≤ find name i rs
+  unfolding find
+  find-least i [] h = absurd (h refl)
+  find-least i (r ∷ rs) h = least-go i (find name (suc i) rs) (sameBytes (r .name) name) (find-least (suc i) rs) h
+
+  there-go : (i : ℕ) (r : KindRow) (rs : List KindRow) (b : Bool) → sameBytes (r .name) name ≡ b
+      → ((find name (suc i) rs ≡ 0 → ⊥) → getD rs (find name (suc i) rs - suc i) blank .name ≡ name)
+      → (cond b i (find name (suc i) rs) ≡ 0 → ⊥) → getD (r ∷ rs) (cond b i (find name (suc i) rs) - i) blank .name ≡ name
+  there-go i r rs true e later h =
+      let z : i - i ≡ 0 = omega arith in
+      rw z (same→≡ (r .name) name (subst T (sym e) tt))
+  there-go i r rs false e later h =
+      let l = find-least (suc i) rs h in
+      let z : find name (suc i) rs - i ≡ suc (find name (suc i) rs - suc i) = omega arith in
+      rw z (later h)
+
+  find-there : (i : ℕ) (rs : List KindRow) → (find name i rs ≡ 0 → ⊥) → getD rs (find name i rs - i) blank .name ≡ name
+  unfolding find
+  find-there i [] h = absurd (h refl)
+  find-there i (r ∷ rs) h = there-go i r rs (sameBytes (r .name) name) refl (find-there (suc i) rs) h
+
+-- the kind of a name in any layout
+module _ (l : Layout) (name : List ℕ) (found : kindNamed l name ≡ 0 → ⊥) where
+  pub found-row : row l (kindNamed l name) .name ≡ name
+  found-row =
+      let e = find-least name 1 (drop 1 (l .rows)) found in
+      let z : 1 + (kindNamed l name - 1) ≡ kindNamed l name = omega arith in
+      sym (ap (λ (r : KindRow). r .name) (getD-drop 1 (l .rows) (kindNamed l name - 1) blank ∙ ap (row l) z))
+      ∙ find-there name 1 (drop 1 (l .rows)) found
+
+  pub found-within : kindNamed l name < length (l .rows)
+  found-within =
+      let e = find-least name 1 (drop 1 (l .rows)) found in
+      omega (arith, find-bound name 1 (drop 1 (l .rows)) (omega arith), length-drop 1 (l .rows))
+
+-- there are at most 32 kinds
+pub kind-most : (t bytes name : List ℕ) → kindNamed (layoutOf t bytes) name ≤ 32
+kind-most t bytes name =
+    let rows = layoutOf t bytes .rows in
+    let b : kindNamed (layoutOf t bytes) name < 1 + length (drop 1 rows) = find-bound name 1 (drop 1 rows) (omega arith) in
+    omega (arith, length-drop 1 rows, rows-length t bytes)
+
+-- three bytes, and the number that they are
+pub record Spells (name : List ℕ) (n : ℕ) : Type 0 where
+  pub three : length name ≡ 3
+  pub first : getD name 0 0 < 256
+  pub second : getD name 1 0 < 256
+  pub third : getD name 2 0 < 256
+  pub is : n ≡ getD name 0 0 * 65536 + getD name 1 0 * 256 + getD name 2 0
+
+three-bytes : (s : List ℕ) → length s ≡ 3 → s ≡ getD s 0 0 ∷ getD s 1 0 ∷ getD s 2 0 ∷ []
+three-bytes [] h = absurd (omega arith)
+three-bytes (a ∷ []) h = absurd (omega arith)
+three-bytes (a ∷ b ∷ []) h = absurd (omega arith)
+three-bytes (a ∷ b ∷ c ∷ []) h = refl
+three-bytes (a ∷ b ∷ c ∷ d ∷ s) h = absurd (omega arith)
+
+-- a number's name is these bytes exactly where its lowest 24 bits are the number that they are
+module _ (name : List ℕ) (n : ℕ) (s : Spells name n) (w : ℕ) where
+  pub number→name : w % 16777216 ≡ n → nameOf w ≡ name
+  number→name e =
+      let a : w / 65536 % 256 ≡ getD name 0 0 = omega arith in
+      let b : w / 256 % 256 ≡ getD name 1 0 = omega arith in
+      let c : w % 256 ≡ getD name 2 0 = omega arith in
+      (λ i. a i ∷ b i ∷ c i ∷ []) ∙ sym (three-bytes name (s .three))
+
+  pub name→number : nameOf w ≡ name → w % 16777216 ≡ n
+  name→number e =
+      let a : w / 65536 % 256 ≡ getD name 0 0 = ap (λ (x : List ℕ). getD x 0 0) e in
+      let b : w / 256 % 256 ≡ getD name 1 0 = ap (λ (x : List ℕ). getD x 1 0) e in
+      let c : w % 256 ≡ getD name 2 0 = ap (λ (x : List ℕ). getD x 2 0) e in
+      omega arith
+
+  same-name : w % 16777216 ≡ n → sameBytes (nameOf w) name ≡ true
+  same-name e = ap (λ (x : List ℕ). sameBytes x name) (number→name e) ∙ same-refl name
+
+  other-name : (w % 16777216 ≡ n → ⊥) → sameBytes (nameOf w) name ≡ false
+  other-name h = go (sameBytes (nameOf w) name) refl
+    where
+      go : (b : Bool) → sameBytes (nameOf w) name ≡ b → b ≡ false
+      go true e = absurd (h (name→number (same→≡ (nameOf w) name (subst T (sym e) tt))))
+      go false e = refl
+
+-- one step of the search
+module _ (t bytes name : List ℕ) (n : ℕ) (s : Spells name n) (i : ℕ) where
+  name-at : cell t i 0 ≡ word t (i * 6 + 2)
+  name-at = ap (word t) (add-zero (i * 6 + 2))
+
+  step : (b : Bool) → i < rowCount t → sameBytes (nameOf (cell t i 0)) name ≡ b
+      → find name i (drop i (layoutOf t bytes .rows)) ≡ cond b i (find name (i + 1) (drop (i + 1) (layoutOf t bytes .rows)))
+  unfolding find rowOf
+  step b h e =
+      ap (find name i) (rows-drop t bytes i h)
+      ∙ ap (λ (x : Bool). cond x i (find name (suc i) (drop (i + 1) (layoutOf t bytes .rows)))) e
+      ∙ rw add-one
+
+  pub find-here : i < rowCount t → word t (i * 6 + 2) % 16777216 ≡ n → find name i (drop i (layoutOf t bytes .rows)) ≡ i
+  find-here h e = step true h (same-name name n s (cell t i 0) (ap (λ (x : ℕ). x % 16777216) name-at ∙ e))
+
+  pub find-next : i < rowCount t → (word t (i * 6 + 2) % 16777216 ≡ n → ⊥)
+      → find name (i + 1) (drop (i + 1) (layoutOf t bytes .rows)) ≡ find name i (drop i (layoutOf t bytes .rows))
+  find-next h e = sym (step false h (other-name name n s (cell t i 0) (λ q. e (ap (λ (x : ℕ). x % 16777216) (sym name-at) ∙ q))))
+
+  pub find-end : rowCount t ≤ i → find name i (drop i (layoutOf t bytes .rows)) ≡ 0
+  unfolding find
+  find-end h = rw (rows-done t bytes i h)
+
+-- a name that is not of three bytes is no kind's
+no-kind : (t bytes name : List ℕ) → (length name ≡ 3 → ⊥) → (kindNamed (layoutOf t bytes) name ≡ 0 → ⊥) → ⊥
+unfolding rowOf
+no-kind t bytes name h found =
+    let l = layoutOf t bytes in
+    let k : kindNamed l name < rowCount t = omega (arith, found-within l name found, rows-length t bytes) in
+    h (ap length (sym (found-row l name found) ∙ ap (λ (r : KindRow). r .name) (row-of t bytes (kindNamed l name) k)))
+
+pub find-long : (t bytes name : List ℕ) → (length name ≡ 3 → ⊥) → kindNamed (layoutOf t bytes) name ≡ 0
+find-long t bytes name h = go (kindNamed (layoutOf t bytes) name) refl
+  where
+    go : (k : ℕ) → kindNamed (layoutOf t bytes) name ≡ k → kindNamed (layoutOf t bytes) name ≡ 0
+    go zero e = e
+    go (suc k) e = absurd (no-kind t bytes name h (λ z. let q : suc k ≡ 0 = sym e ∙ z in omega arith))

@@ -1,0 +1,18 @@
+-- Number 1 of a row is its followers. Assumes nothing.
+use mathlib.Core.Path.{_∙_}
+use denote.Ref.{now}
+use Rattle.layout.proofs.Rows.{next-is}
+use borrow.Author.Needs.{needs}
+use Rattle.layout.proofs.followers.Statement.{statement}
+use Rattle.layout.proofs.followers.Tie as tie
+
+row-word-requires : tie.Need-row-word-requires
+row-word-requires c κs = search needs
+
+returns : tie.Need-returns
+returns c =
+    let a = c .before .before .args in
+    (λ bytes. c .row-word .ensures .0 ∙ next-is (now (a .t)) bytes (a .k), c .row-word .ensures .1)
+
+pub followers-spec : {M : Type 1} → statement M
+followers-spec = tie.close (tie.spec row-word-requires returns)

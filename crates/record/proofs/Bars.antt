@@ -1,0 +1,100 @@
+-- Laws of bytes with a separator turned to bars.
+use Prim.Native.Nat.{ℕ, zero, suc, _+_}
+use mathlib.Core.Path.{_≡_, refl, sym, ap, ap₂, _∙_}
+use mathlib.Core.List.{List, [], _∷_, _++_, map, foldl, foldl-map}
+use mathlib.Core.Bool.{Bool, true, false, cond}
+use lib.Dec.{eqb}
+use lib.ListN.{length, take, drop, length-map}
+use borrow.Author.Tests.{eqb-true, ne-eqb}
+use Rattle.record.specs.Records.{onto, records, fields, bar, barred, joined, holds}
+use Rattle.record.specs.Checksum.{addRecord, checksum}
+use Rattle.record.proofs.Cutting.{neither}
+
+pub barred-append : (sep : ℕ) (a b : List ℕ) → barred sep (a ++ b) ≡ barred sep a ++ barred sep b
+unfolding barred
+barred-append sep [] b = refl
+barred-append sep (x ∷ a) b = ap (λ (l : List ℕ). bar sep x ∷ l) (barred-append sep a b)
+
+-- a part of turned bytes is the turned part
+pub barred-take : (sep n : ℕ) (s : List ℕ) → take n (barred sep s) ≡ barred sep (take n s)
+unfolding barred
+barred-take sep zero s = refl
+barred-take sep (suc n) [] = refl
+barred-take sep (suc n) (b ∷ s) = ap (λ (l : List ℕ). bar sep b ∷ l) (barred-take sep n s)
+
+pub barred-drop : (sep n : ℕ) (s : List ℕ) → drop n (barred sep s) ≡ barred sep (drop n s)
+unfolding barred
+barred-drop sep zero s = refl
+barred-drop sep (suc n) [] = refl
+barred-drop sep (suc n) (b ∷ s) = barred-drop sep n s
+
+-- where sep is no line feed, line feeds stand where they stood
+feed-go : (sep b : ℕ) (t : Bool) → (sep ≡ 0x0A → ⊥) → eqb b sep ≡ t → eqb (cond t 0x7C b) 0x0A ≡ eqb b 0x0A
+feed-go sep b true h e = sym (ne-eqb b 0x0A (λ p. h (sym (eqb-true b sep e) ∙ p)))
+feed-go sep b false h e = refl
+
+feed-kept : (sep b : ℕ) → (sep ≡ 0x0A → ⊥) → eqb (bar sep b) 0x0A ≡ eqb b 0x0A
+unfolding bar
+feed-kept sep b h = feed-go sep b (eqb b sep) h refl
+
+map-go : (sep b : ℕ) (ps : List (List ℕ)) (t : Bool) → cond t ([] ∷ map (barred sep) ps) (onto (bar sep b) (map (barred sep) ps)) ≡ map (barred sep) (cond t ([] ∷ ps) (onto b ps))
+unfolding onto barred
+map-go sep b ps true = refl
+map-go sep b [] false = refl
+map-go sep b (p ∷ ps) false = refl
+
+-- the records of turned bytes are the turned records
+pub records-barred : (sep : ℕ) (s : List ℕ) → (sep ≡ 0x0A → ⊥) → records (barred sep s) ≡ map (barred sep) (records s)
+unfolding records barred
+records-barred sep [] h = refl
+records-barred sep (b ∷ s) h = rw (feed-kept sep b h, records-barred sep s h) (map-go sep b (records s) (eqb b 0x0A))
+
+pub records-barred-length : (sep : ℕ) (s : List ℕ) → (sep ≡ 0x0A → ⊥) → length (records (barred sep s)) ≡ length (records s)
+records-barred-length sep s h = ap length (records-barred sep s h) ∙ length-map (records s) (barred sep)
+
+fields-go : (sep b : ℕ) (fs : List (List ℕ)) (t : Bool) → eqb b 0x7C ≡ false
+    → cond (eqb (cond t 0x7C b) 0x7C) ([] ∷ fs) (onto (cond t 0x7C b) fs) ≡ cond t ([] ∷ fs) (onto b fs)
+fields-go sep b fs true h = refl
+fields-go sep b fs false h = rw h
+
+-- where a line holds no bar, its turned bytes have its fields, parted by bars
+pub fields-barred : (sep : ℕ) (r : List ℕ) → holds 0x7C r ≡ false → fields 0x7C (barred sep r) ≡ fields sep r
+unfolding fields barred bar holds
+fields-barred sep [] h = refl
+fields-barred sep (b ∷ s) h =
+    let p = neither (eqb b 0x7C) (holds 0x7C s) h in
+    rw (fields-barred sep s (p .1)) (fields-go sep b (fields sep s) (eqb b sep) (p .0))
+
+-- where sep does not stand, nothing is turned
+pub barred-none : (sep : ℕ) (s : List ℕ) → holds sep s ≡ false → barred sep s ≡ s
+unfolding barred bar holds
+barred-none sep [] h = refl
+barred-none sep (b ∷ s) h =
+    let p = neither (eqb b sep) (holds sep s) h in
+    rw (p .0, barred-none sep s (p .1))
+
+gone-go : (sep b : ℕ) (t : Bool) → (sep ≡ 0x7C → ⊥) → eqb b sep ≡ t → eqb (cond t 0x7C b) sep ≡ false
+gone-go sep b true h e = ne-eqb 0x7C sep (λ p. h (sym p))
+gone-go sep b false h e = e
+
+-- after turning, sep does not stand any more
+pub barred-gone : (sep : ℕ) (s : List ℕ) → (sep ≡ 0x7C → ⊥) → holds sep (barred sep s) ≡ false
+unfolding barred bar holds
+barred-gone sep [] h = refl
+barred-gone sep (b ∷ s) h = rw (gone-go sep b (eqb b sep) h refl) (barred-gone sep s h)
+
+feed-bar : (sep : ℕ) → (sep ≡ 0x0A → ⊥) → bar sep 0x0A ≡ 0x0A
+unfolding bar
+feed-bar sep h = simp (ne-eqb 0x0A sep (λ p. h (sym p)))
+
+-- joined lines are turned line by line
+pub barred-joined : (sep : ℕ) (rs : List (List ℕ)) → (sep ≡ 0x0A → ⊥) → barred sep (joined rs) ≡ joined (map (barred sep) rs)
+unfolding joined barred
+barred-joined sep [] h = refl
+barred-joined sep (r ∷ rs) h =
+    barred-append sep r (0x0A ∷ joined rs) ∙ ap₂ (λ (b : ℕ) (l : List ℕ). barred sep r ++ b ∷ l) (feed-bar sep h) (barred-joined sep rs h)
+
+-- the checksum of turned records, one line at a time
+pub checksum-barred : (sep : ℕ) (rs : List (List ℕ)) → checksum (map (barred sep) rs) ≡ foldl (λ (t : ℕ) (r : List ℕ). addRecord t (barred sep r)) 0 rs
+unfolding checksum
+checksum-barred sep rs = foldl-map (barred sep) addRecord rs 0

@@ -1,0 +1,11 @@
+pub mod Runs
+pub mod Cursors
+pub mod Pieces
+pub mod Xor
+pub mod Sums
+pub mod Cutting
+pub mod Bars
+pub mod Changes
+pub mod Fields
+pub mod Examples
+pub mod Lanes

@@ -1,0 +1,13 @@
+-- `parting` is right by its one test.
+use borrow.Author.Tests.{eq-eqb, ne-eqb}
+use Rattle.record.proofs.parting.Statement.{statement}
+use Rattle.record.proofs.parting.Tie as tie
+
+returns : tie.Need-returns
+returns c = simp (eq-eqb _ _ (c .if1 .taken))
+
+returns-2 : tie.Need-returns-2
+returns-2 c = simp (ne-eqb _ _ (c .if1 .left))
+
+pub parting-spec : {M : Type 1} → statement M
+parting-spec = tie.close (tie.spec returns returns-2)

@@ -1,0 +1,292 @@
+ghost use mathlib.Core.Path.{_≡_};
+ghost use Prim.Native.Nat.{_+_, _/_, _≤_, _<_};
+ghost use mathlib.Core.Bool.{cond};
+ghost use lib.Dec.{eqb};
+ghost use lib.Count.{trailingZeros};
+ghost use lib.ListN.{length, take, drop, getD};
+ghost use Rattle.record.specs.Records.{run, fields, barred};
+ghost use Rattle.record.specs.Eight.{low};
+ghost use Rattle.record.specs.Step.{Stepped, FieldStepped};
+ghost use Rattle.record.specs.Checksum.{word, pieceAt, addRecord, checksumOf};
+
+// Where the first `sep` at or after `at` stands, or the end; a byte at a time, for fields, which are short.
+fn find(s: &[u8], at: usize, sep: u8) -> usize
+    requires { ⌜ at ≤ length (now s) ⌝ }
+    ensures { λ r. ⌜ r ≡ at + run sep (drop at (now (s .entry))) ⌝ }
+{
+    let mut i = at;
+    while i < s.len() {
+        if s[i] == sep {
+            return i;
+        }
+        i += 1;
+    }
+    i
+}
+
+// A byte as a number that can be joined.
+fn wide(b: u8) -> u32
+    ensures { λ r. ⌜ r ≡ b ⌝ }
+{
+    b as u32
+}
+
+// Four bytes joined, first byte highest.
+fn join(a: u8, b: u8, c: u8, d: u8) -> u32
+    ensures { λ r. ⌜ r ≡ word a b c d ⌝ }
+{
+    wide(a) * 0x1000000 + wide(b) * 0x10000 + wide(c) * 0x100 + wide(d)
+}
+
+// Four joined bytes as a number that can be joined.
+fn long(x: u32) -> u64
+    ensures { λ r. ⌜ r ≡ x ⌝ }
+{
+    x as u64
+}
+
+// The four bytes from `i` on, first byte lowest.
+fn four(s: &[u8], i: usize) -> u32
+    requires { ⌜ i + 4 ≤ length (now s) ⌝ }
+    ensures { λ r. ⌜ r ≡ low (take 4 (drop i (now (s .entry)))) ⌝ }
+{
+    join(s[i + 3], s[i + 2], s[i + 1], s[i])
+}
+
+// The eight bytes from `i` on, first byte lowest.
+fn eight(s: &[u8], i: usize) -> u64
+    requires { ⌜ i + 8 ≤ length (now s) ⌝ }
+    ensures { λ r. ⌜ r ≡ low (take 8 (drop i (now (s .entry)))) ⌝ }
+{
+    long(four(s, i)) + long(four(s, i + 4)) * 0x100000000
+}
+
+// How many zero bytes stand at the low end of `h`.
+fn low_zeros(h: u64) -> usize
+    ensures { λ r. ⌜ r ≡ trailingZeros 64 h / 8 ⌝ }
+{
+    (u64::trailing_zeros(h) / 8) as usize
+}
+
+// How many of the eight bytes from `i` on stand before the first `sep` among them, or 8.
+// A byte of `t` is 0 where `sep` stands; then a byte of `m` is 0, and any other is 0x80.
+fn run_in_eight(s: &[u8], i: usize, sep: u8) -> usize
+    requires { ⌜ i + 8 ≤ length (now s) ⌝ }
+    ensures { λ r. ⌜ r ≡ run sep (take 8 (drop i (now (s .entry)))) ⌝ }
+{
+    let t = eight(s, i) ^ (long(wide(sep)) * 0x0101010101010101);
+    let m = (((t & 0x7f7f7f7f7f7f7f7f) + 0x7f7f7f7f7f7f7f7f) | t) & 0x8080808080808080;
+    low_zeros(m ^ 0x8080808080808080)
+}
+
+// The same as `find`, eight bytes at a time: for records, which are long.
+fn find_far(s: &[u8], at: usize, sep: u8) -> usize
+    requires { ⌜ at ≤ length (now s) ⌝ }
+    ensures { λ r. ⌜ r ≡ at + run sep (drop at (now (s .entry))) ⌝ }
+{
+    let mut i = at;
+    while 8 <= s.len() - i {
+        let k = run_in_eight(s, i, sep);
+        if k < 8 {
+            return i + k;
+        }
+        i += 8;
+    }
+    find(s, i, sep)
+}
+
+// A place in a file, from which the next record is cut.
+pub struct Cursor {
+    pub at: usize,
+}
+
+// The record from `start` up to `end`, with the cursor past it and its line feed; or none is left.
+pub enum Step {
+    Record {
+        start: usize,
+        end: usize,
+        next: Cursor,
+    },
+    Done,
+}
+
+impl Cursor {
+    // The next record of `s`.
+    pub fn step(self, s: &[u8]) -> Step
+        ensures { λ r. ⌜ Stepped (now (s .entry)) (self .at) r ⌝ }
+    {
+        let at = self.at;
+        if s.len() <= at {
+            return Step::Done;
+        }
+        let end = find_far(s, at, 0x0A);
+        if end < s.len() {
+            Step::Record {
+                start: at,
+                end: end,
+                next: Cursor { at: end + 1 },
+            }
+        } else {
+            Step::Record {
+                start: at,
+                end: end,
+                next: Cursor { at: end },
+            }
+        }
+    }
+}
+
+// A place in a record, from which the next field is cut; past the end when none is left.
+pub struct FieldCursor {
+    pub at: usize,
+}
+
+// The field from `start` up to `end`, with the cursor past it and its separator; or none is left.
+pub enum FieldStep {
+    Field {
+        start: usize,
+        end: usize,
+        next: FieldCursor,
+    },
+    Done,
+}
+
+impl FieldCursor {
+    // The next field of the record `r`, parted by `sep`.
+    pub fn step(self, sep: u8, r: &[u8]) -> FieldStep
+        ensures { λ f. ⌜ FieldStepped sep (now (r .entry)) (self .at) f ⌝ }
+    {
+        let at = self.at;
+        if r.len() < at {
+            return FieldStep::Done;
+        }
+        let end = find(r, at, sep);
+        FieldStep::Field {
+            start: at,
+            end: end,
+            next: FieldCursor { at: end + 1 },
+        }
+    }
+}
+
+// One where the byte `b` is `sep`, else nothing.
+fn parting(sep: u8, b: u8) -> usize
+    ensures { λ r. ⌜ r ≡ cond (eqb b sep) 1 0 ⌝ }
+{
+    if b == sep { 1 } else { 0 }
+}
+
+// How many fields the record `r` has: one more than separators.
+pub fn count_fields(sep: u8, r: &[u8]) -> usize
+    ensures { λ n. ⌜ n ≡ length (fields sep (now (r .entry))) ⌝ }
+{
+    let mut n = 1;
+    let mut i = 0;
+    while i < r.len() {
+        n += parting(sep, r[i]);
+        i += 1;
+    }
+    n
+}
+
+// The byte at `i`, with `sep` counted as a bar.
+fn barred_byte(sep: u8, s: &[u8], i: usize) -> u8
+    requires { ⌜ i < length (now s) ⌝ }
+    ensures { λ r. ⌜ r ≡ getD (barred sep (now (s .entry))) i 0 ⌝ }
+{
+    if s[i] == sep { b'|' } else { s[i] }
+}
+
+// The same, or a zero byte past the end.
+fn filled(sep: u8, s: &[u8], i: usize) -> u8
+    ensures { λ r. ⌜ r ≡ getD (barred sep (now (s .entry))) i 0 ⌝ }
+{
+    if i < s.len() {
+        barred_byte(sep, s, i)
+    } else {
+        0
+    }
+}
+
+// The whole piece at `i`.
+fn piece(s: &[u8], i: usize) -> u32
+    requires { ⌜ i + 4 ≤ length (now s) ⌝ }
+    ensures { λ r. ⌜ r ≡ pieceAt (now (s .entry)) i ⌝ }
+{
+    join(s[i], s[i + 1], s[i + 2], s[i + 3])
+}
+
+// The whole piece at `i`, with `sep` counted as a bar.
+fn barred_piece(sep: u8, s: &[u8], i: usize) -> u32
+    requires { ⌜ i + 4 ≤ length (now s) ⌝ }
+    ensures { λ r. ⌜ r ≡ pieceAt (barred sep (now (s .entry))) i ⌝ }
+{
+    join(
+        barred_byte(sep, s, i),
+        barred_byte(sep, s, i + 1),
+        barred_byte(sep, s, i + 2),
+        barred_byte(sep, s, i + 3),
+    )
+}
+
+// The running checksum with what is left from `i` on, fewer than four bytes.
+fn add_tail(sum: u32, sep: u8, s: &[u8], i: usize) -> u32
+    requires { ⌜ length (now s) < i + 4 ⌝ }
+    ensures { λ r. ⌜ r ≡ addRecord sum (drop i (barred sep (now (s .entry)))) ⌝ }
+{
+    if s.len() <= i {
+        return sum;
+    }
+    let a = filled(sep, s, i);
+    let b = filled(sep, s, i + 1);
+    let c = filled(sep, s, i + 2);
+    sum ^ join(a, b, c, 0)
+}
+
+// The running checksum with one record more.
+pub fn add_record(sum: u32, part: &[u8]) -> u32
+    ensures { λ r. ⌜ r ≡ addRecord sum (now (part .entry)) ⌝ }
+{
+    let mut t = sum;
+    let mut i = 0;
+    while 4 <= part.len() - i {
+        t = t ^ piece(part, i);
+        i += 4;
+    }
+    add_tail(t, b'|', part, i)
+}
+
+// The running checksum with one line more, its separators counted as bars.
+pub fn add_line(sum: u32, sep: u8, part: &[u8]) -> u32
+    ensures { λ r. ⌜ r ≡ addRecord sum (barred sep (now (part .entry))) ⌝ }
+{
+    if sep == b'|' {
+        return add_record(sum, part);
+    }
+    let mut t = sum;
+    let mut i = 0;
+    while 4 <= part.len() - i {
+        t = t ^ barred_piece(sep, part, i);
+        i += 4;
+    }
+    add_tail(t, sep, part, i)
+}
+
+// The checksum of bytes: of every record in them, of any kind.
+pub fn checksum(s: &[u8]) -> u32
+    ensures { λ r. ⌜ r ≡ checksumOf (now (s .entry)) ⌝ }
+{
+    let mut sum = 0;
+    let mut c = Cursor { at: 0 };
+    loop {
+        match c.step(s) {
+            Step::Record { start, end, next } => {
+                sum = add_record(sum, &s[start..end]);
+                c = next;
+            }
+            Step::Done => {
+                return sum;
+            }
+        }
+    }
+}
