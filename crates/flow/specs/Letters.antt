@@ -1,91 +1,92 @@
 -- The names of the kinds and flows, and the letters that are fixed values, as bytes. Assumes nothing.
 use Prim.Native.Nat.{ℕ}
-use mathlib.Core.List.{List, [], _∷_}
+use mathlib.Core.List.{List}
+use Rattle.text.specs.Characters.{bytes}
 
 abbrev pub ZHD : List ℕ
-ZHD = 90 ∷ 72 ∷ 68 ∷ []
+ZHD = bytes "ZHD"
 
 abbrev pub ZPT : List ℕ
-ZPT = 90 ∷ 80 ∷ 84 ∷ []
+ZPT = bytes "ZPT"
 
 abbrev pub ZPD : List ℕ
-ZPD = 90 ∷ 80 ∷ 68 ∷ []
+ZPD = bytes "ZPD"
 
 abbrev pub HDR : List ℕ
-HDR = 72 ∷ 68 ∷ 82 ∷ []
+HDR = bytes "HDR"
 
 abbrev pub GSP : List ℕ
-GSP = 71 ∷ 83 ∷ 80 ∷ []
+GSP = bytes "GSP"
 
 abbrev pub GS2 : List ℕ
-GS2 = 71 ∷ 83 ∷ 50 ∷ []
+GS2 = bytes "GS2"
 
 abbrev pub GS7 : List ℕ
-GS7 = 71 ∷ 83 ∷ 55 ∷ []
+GS7 = bytes "GS7"
 
 abbrev pub SUP : List ℕ
-SUP = 83 ∷ 85 ∷ 80 ∷ []
+SUP = bytes "SUP"
 
 abbrev pub BMU : List ℕ
-BMU = 66 ∷ 77 ∷ 85 ∷ []
+BMU = bytes "BMU"
 
 abbrev pub SB1 : List ℕ
-SB1 = 83 ∷ 66 ∷ 49 ∷ []
+SB1 = bytes "SB1"
 
 abbrev pub CM1 : List ℕ
-CM1 = 67 ∷ 77 ∷ 49 ∷ []
+CM1 = bytes "CM1"
 
 abbrev pub SB2 : List ℕ
-SB2 = 83 ∷ 66 ∷ 50 ∷ []
+SB2 = bytes "SB2"
 
 abbrev pub CM2 : List ℕ
-CM2 = 67 ∷ 77 ∷ 50 ∷ []
+CM2 = bytes "CM2"
 
 abbrev pub SUB : List ℕ
-SUB = 83 ∷ 85 ∷ 66 ∷ []
+SUB = bytes "SUB"
 
 abbrev pub TA2 : List ℕ
-TA2 = 84 ∷ 65 ∷ 50 ∷ []
+TA2 = bytes "TA2"
 
 abbrev pub SP7 : List ℕ
-SP7 = 83 ∷ 80 ∷ 55 ∷ []
+SP7 = bytes "SP7"
 
 abbrev pub P0012001 : List ℕ
-P0012001 = 80 ∷ 48 ∷ 48 ∷ 49 ∷ 50 ∷ 48 ∷ 48 ∷ 49 ∷ []
+P0012001 = bytes "P0012001"
 
 abbrev pub P0181002 : List ℕ
-P0181002 = 80 ∷ 48 ∷ 49 ∷ 56 ∷ 49 ∷ 48 ∷ 48 ∷ 50 ∷ []
+P0181002 = bytes "P0181002"
 
 abbrev pub P0133001 : List ℕ
-P0133001 = 80 ∷ 48 ∷ 49 ∷ 51 ∷ 51 ∷ 48 ∷ 48 ∷ 49 ∷ []
+P0133001 = bytes "P0133001"
 
 abbrev pub P0134001 : List ℕ
-P0134001 = 80 ∷ 48 ∷ 49 ∷ 51 ∷ 52 ∷ 48 ∷ 48 ∷ 49 ∷ []
+P0134001 = bytes "P0134001"
 
 abbrev pub P0138001 : List ℕ
-P0138001 = 80 ∷ 48 ∷ 49 ∷ 51 ∷ 56 ∷ 48 ∷ 48 ∷ 49 ∷ []
+P0138001 = bytes "P0138001"
 
 abbrev pub P0164001 : List ℕ
-P0164001 = 80 ∷ 48 ∷ 49 ∷ 54 ∷ 52 ∷ 48 ∷ 48 ∷ 49 ∷ []
+P0164001 = bytes "P0164001"
 
 abbrev pub B : List ℕ
-B = 66 ∷ []
+B = bytes "B"
 
 abbrev pub G : List ℕ
-G = 71 ∷ []
+G = bytes "G"
 
 abbrev pub H : List ℕ
-H = 72 ∷ []
+H = bytes "H"
 
 abbrev pub M : List ℕ
-M = 77 ∷ []
+M = bytes "M"
 
 abbrev pub X : List ℕ
-X = 88 ∷ []
+X = bytes "X"
 
 abbrev pub Z : List ℕ
-Z = 90 ∷ []
+Z = bytes "Z"
 
 -- the digit 0
 abbrev pub nought : List ℕ
-nought = 48 ∷ []
+nought = bytes "0"

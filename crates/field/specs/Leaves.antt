@@ -1,0 +1,49 @@
+-- The rules of int and dec as the code's small functions meet them, the minus taken off. Assumes nothing.
+use Prim.Native.Nat.{ℕ, _+_, _-_}
+use mathlib.Core.Bool.{Bool, cond, not, _&&_, _||_}
+use mathlib.Core.List.{List, _++_}
+use lib.Dec.{eqb, leb, ltb}
+use lib.ListN.{length, getD, take, drop}
+use Rattle.text.specs.Characters.{all, isDigit}
+use Rattle.text.specs.Rules.{must}
+use Rattle.field.specs.Numbers.{number, numberFrom, signed, isZero, plain}
+use Rattle.field.specs.declared.Spelt.{Spelt}
+use Rattle.field.specs.declared.Spelt.the-variants.{Digits, Other}
+use Rattle.field.specs.declared.FieldAnswer.{FieldAnswer}
+use Rattle.field.specs.declared.FieldAnswer.the-variants.{Refused, Number}
+
+-- one byte or more, and no zero before another
+abbrev pub leads : List ℕ → Bool
+leads d = not (eqb (length d) 0) && (eqb (length d) 1 || not (eqb (getD d 0 0) 48))
+
+-- what a pass over digits finds, after digits that spell v: the number that all spell, or a byte that is no digit
+abbrev pub speltFrom : ℕ → List ℕ → Spelt
+speltFrom v d = cond (all isDigit d) (Digits (numberFrom v d)) Other
+
+-- digits after digits that spell v, with their sign
+abbrev pub digitsAnswer : Bool → ℕ → List ℕ → FieldAnswer
+digitsAnswer below v d = must (all isDigit d) (Refused 8) (Number (signed below (numberFrom v d)))
+
+-- the digits of an int by its sign: form, then at most n, then the value
+unfoldable pub intAnswer : Bool → ℕ → List ℕ → FieldAnswer
+intAnswer below n d =
+    must (plain d && not (below && eqb (getD d 0 0) 48)) (Refused 8)
+    (must (leb (length d) n) (Refused 9)
+    (Number (signed below (number d))))
+
+-- a minus before nothing but zeros
+unfoldable pub negativeZero : Bool → List ℕ → List ℕ → Bool
+negativeZero below a b = below && (all isZero a && all isZero b)
+
+-- the digits of a dec before its point and those after it: form, then at most p in all, then the value
+unfoldable pub decAnswer : Bool → ℕ → List ℕ → List ℕ → FieldAnswer
+decAnswer below p a b =
+    must (plain a && all isDigit b && not (negativeZero below a b)) (Refused 8)
+    (must (leb (length a + length b) p) (Refused 9)
+    (Number (signed below (number (a ++ b)))))
+
+-- the bytes of a dec by its sign: a point before the last q, then the digits
+unfoldable pub pointedAnswer : Bool → ℕ → ℕ → List ℕ → FieldAnswer
+pointedAnswer below p q d =
+    must (ltb q (length d) && eqb (getD d (length d - q - 1) 0) 46) (Refused 8)
+    (decAnswer below p (take (length d - q - 1) d) (drop (length d - q) d))

@@ -1,0 +1,670 @@
+// One field's bytes judged against a type and its mark.
+use text::Order;
+ghost use mathlib.Core.Path.{_≡_};
+ghost use mathlib.Core.Bool.{_&&_};
+ghost use mathlib.Core.List.{[]};
+ghost use Prim.Native.Nat.{_<_, _≤_, _^_, _+_, _*_, _/_, _%_};
+ghost use lib.IntN.{pos};
+ghost use lib.ListN.{length};
+ghost use Rattle.text.specs.Rules.{must};
+ghost use Rattle.text.specs.Characters.{all, isDigit, from-to, IsClassTable};
+ghost use Rattle.field.specs.Numbers.{minus as minusOf, isZero, signed as signedOf, spelled};
+ghost use Rattle.field.specs.Calendar.{leap, daysIn, isDay, isDate, isTime};
+ghost use Rattle.field.specs.Types.{Sound, widthRight, isNull};
+ghost use Rattle.field.specs.Judge.{bare, marked, mayBeEmpty, meetsMark, filled, fieldAnswer, fieldJudged, paper, refusalOf};
+ghost use Rattle.field.specs.Leaves.{leads, speltFrom, digitsAnswer, intAnswer, negativeZero, decAnswer, pointedAnswer};
+ghost use Rattle.field.specs.Keys.{digitsOrder, wholeOrder, keyOrder};
+ghost use Rattle.field.specs.declared.FieldType.the-variants as types;
+ghost use Rattle.field.specs.declared.FieldAnswer.the-variants as answers;
+
+// The types of fields, with their widths.
+pub enum FieldType {
+    Text(usize),
+    Int(usize),
+    Dec(usize, usize),
+    Date,
+    Datetime,
+    Bol,
+    Period,
+    Null,
+}
+
+// What stands beside a type; the bytes of a fixed value are lent beside it.
+pub enum Mark {
+    Bare,
+    Opt,
+    Fixed,
+}
+
+// What is said of a field: a refusal by its number, or a value. The value Text is the field's own bytes.
+pub enum FieldAnswer {
+    Refused(u8),
+    Empty,
+    Number(i64),
+    Truth(bool),
+    Text,
+}
+
+// What a pass over digits finds: the number that they spell, or a byte that is no digit.
+enum Spelt {
+    Digits(u64),
+    Other,
+}
+
+// Each byte is a digit.
+fn all_digits(s: &[u8]) -> bool
+    ensures { λ r. ⌜ r ≡ all isDigit (now (s .entry)) ⌝ }
+{
+    let mut i = 0;
+    while i < s.len() {
+        if s[i] < 48 {
+            return false;
+        }
+        if 57 < s[i] {
+            return false;
+        }
+        i += 1;
+    }
+    true
+}
+
+// A byte as a number of 64 bits.
+fn wide(b: u8) -> u64
+    ensures { λ r. ⌜ r ≡ b ⌝ }
+{
+    b as u64
+}
+
+// Digits tested and read in one pass, after digits that spell `v`. Each byte leaves its mark in `marks`, which is
+// tested once: 303 - b is below 256 from 48 on, and b + 198 up to 57. A byte's last four bits are its digit.
+fn read_digits(v: u64, d: &[u8]) -> Spelt
+    requires { ⌜ (v + 2) * 10 ^ length (now d) ≤ 2 * 10 ^ 18 ⌝ }
+    ensures { λ r. ⌜ r ≡ speltFrom v (now (d .entry)) ⌝ }
+{
+    let mut n = v;
+    let mut marks: u64 = 0;
+    let mut i = 0;
+    while i < d.len() {
+        let b = wide(d[i]);
+        marks = marks | (303 - b) | (b + 198);
+        n = n * 10 + b % 16;
+        i += 1;
+    }
+    if 256 <= marks {
+        return Spelt::Other;
+    }
+    Spelt::Digits(n)
+}
+
+// The first byte is a minus.
+fn minus(s: &[u8]) -> bool
+    ensures { λ r. ⌜ r ≡ minusOf (now (s .entry)) ⌝ }
+{
+    if s.len() == 0 {
+        return false;
+    }
+    s[0] == 45
+}
+
+// One byte or more, and no zero before another.
+fn leads_right(d: &[u8]) -> bool
+    ensures { λ r. ⌜ r ≡ leads (now (d .entry)) ⌝ }
+{
+    if d.len() == 0 {
+        return false;
+    }
+    if d.len() == 1 {
+        return true;
+    }
+    d[0] != 48
+}
+
+// A magnitude with its sign; within 63 bits the negation cannot wrap.
+fn signed(below: bool, v: u64) -> i64
+    requires { ⌜ v < 2 ^ 63 ⌝ }
+    ensures { λ r. ⌜ r ≡ signedOf below v ⌝ }
+{
+    let x = v as i64;
+    if below { 0 - x } else { x }
+}
+
+// Digits after digits that spell `v`, with their sign.
+fn signed_digits(below: bool, v: u64, d: &[u8]) -> FieldAnswer
+    requires { ⌜ (v + 2) * 10 ^ length (now d) ≤ 2 * 10 ^ 18 ⌝ }
+    ensures { λ r. ⌜ r ≡ digitsAnswer below v (now (d .entry)) ⌝ }
+{
+    match read_digits(v, d) {
+        Spelt::Digits(n) => FieldAnswer::Number(signed(below, n)),
+        Spelt::Other => FieldAnswer::Refused(8),
+    }
+}
+
+// Too many bytes: the range is wrong, but the form comes first.
+fn too_long(d: &[u8]) -> FieldAnswer
+    ensures { λ r. ⌜ r ≡ must (all isDigit (now (d .entry))) (answers.Refused 8) (answers.Refused 9) ⌝ }
+{
+    if all_digits(d) {
+        return FieldAnswer::Refused(9);
+    }
+    FieldAnswer::Refused(8)
+}
+
+// The bytes of an int, its minus taken off, by its sign: at most n digits.
+fn int_of(below: bool, d: &[u8], n: usize) -> FieldAnswer
+    requires { ⌜ n ≤ 18 ⌝ }
+    ensures { λ r. ⌜ r ≡ intAnswer below n (now (d .entry)) ⌝ }
+{
+    if !leads_right(d) {
+        return FieldAnswer::Refused(8);
+    }
+    if below {
+        if d[0] == 48 {
+            return FieldAnswer::Refused(8);
+        }
+    }
+    if n < d.len() {
+        return too_long(d);
+    }
+    signed_digits(below, 0, d)
+}
+
+// An int by its sign.
+fn judge_int(s: &[u8], n: usize) -> FieldAnswer
+    requires { ⌜ n ≤ 18 ⌝ }
+    ensures { λ r. ⌜ r ≡ filled (types.Int n) bare (now (s .entry)) ⌝ }
+{
+    if minus(s) {
+        int_of(true, &s[1..], n)
+    } else {
+        int_of(false, s, n)
+    }
+}
+
+// Each byte is the digit 0.
+fn all_zero(s: &[u8]) -> bool
+    ensures { λ r. ⌜ r ≡ all isZero (now (s .entry)) ⌝ }
+{
+    let mut i = 0;
+    while i < s.len() {
+        if s[i] != 48 {
+            return false;
+        }
+        i += 1;
+    }
+    true
+}
+
+// A minus before nothing but zeros.
+fn negative_zero(below: bool, whole: &[u8], places: &[u8]) -> bool
+    ensures { λ r. ⌜ r ≡ negativeZero below (now (whole .entry)) (now (places .entry)) ⌝ }
+{
+    if !below {
+        return false;
+    }
+    if !all_zero(whole) {
+        return false;
+    }
+    all_zero(places)
+}
+
+// Too many bytes before and after the point: as too_long.
+fn both_too_long(whole: &[u8], places: &[u8]) -> FieldAnswer
+    ensures { λ r. ⌜ r ≡ must (all isDigit (now (whole .entry)) && all isDigit (now (places .entry))) (answers.Refused 8) (answers.Refused 9) ⌝ }
+{
+    if !all_digits(whole) {
+        return FieldAnswer::Refused(8);
+    }
+    too_long(places)
+}
+
+// The digits of a dec before its point and those after it, at most p in all.
+fn dec_parts(below: bool, whole: &[u8], places: &[u8], p: usize) -> FieldAnswer
+    requires { ⌜ p ≤ 18 ⌝ }
+    ensures { λ r. ⌜ r ≡ decAnswer below p (now (whole .entry)) (now (places .entry)) ⌝ }
+{
+    if !leads_right(whole) {
+        return FieldAnswer::Refused(8);
+    }
+    if negative_zero(below, whole, places) {
+        return FieldAnswer::Refused(8);
+    }
+    if p < whole.len() {
+        return both_too_long(whole, places);
+    }
+    if p - whole.len() < places.len() {
+        return both_too_long(whole, places);
+    }
+    match read_digits(0, whole) {
+        Spelt::Digits(v) => signed_digits(below, v, places),
+        Spelt::Other => FieldAnswer::Refused(8),
+    }
+}
+
+// The bytes of a dec, its minus taken off, by its sign: a point before the last q.
+fn dec_of(below: bool, d: &[u8], p: usize, q: usize) -> FieldAnswer
+    requires { ⌜ p ≤ 18 ⌝ }
+    ensures { λ r. ⌜ r ≡ pointedAnswer below p q (now (d .entry)) ⌝ }
+{
+    if d.len() <= q {
+        return FieldAnswer::Refused(8);
+    }
+    let e = d.len() - q;
+    let point = e - 1;
+    if d[point] != 46 {
+        return FieldAnswer::Refused(8);
+    }
+    dec_parts(below, &d[..point], &d[e..], p)
+}
+
+// A dec by its sign.
+fn judge_dec(s: &[u8], p: usize, q: usize) -> FieldAnswer
+    requires { ⌜ p ≤ 18 ⌝ }
+    ensures { λ r. ⌜ r ≡ filled (types.Dec p q) bare (now (s .entry)) ⌝ }
+{
+    if minus(s) {
+        dec_of(true, &s[1..], p, q)
+    } else {
+        dec_of(false, s, p, q)
+    }
+}
+
+// Each fourth year but each hundredth, and each four hundredth after all.
+fn is_leap(y: u64) -> bool
+    ensures { λ r. ⌜ r ≡ leap y ⌝ }
+{
+    if y % 4 != 0 {
+        return false;
+    }
+    if y % 100 != 0 {
+        return true;
+    }
+    y % 400 == 0
+}
+
+// February has 28 days, 29 in a leap year; April, June, September and November 30; the others 31.
+fn days_in(y: u64, m: u64) -> u64
+    ensures { λ r. ⌜ r ≡ daysIn y m ⌝ }
+{
+    match m {
+        2 => { if is_leap(y) { 29 } else { 28 } }
+        4 | 6 | 9 | 11 => 30,
+        _ => 31,
+    }
+}
+
+// Day d of month m of year y is in the calendar.
+fn is_day(y: u64, m: u64, d: u64) -> bool
+    ensures { λ r. ⌜ r ≡ isDay y m d ⌝ }
+{
+    if y < 1 {
+        return false;
+    }
+    if 9999 < y {
+        return false;
+    }
+    if m < 1 {
+        return false;
+    }
+    if 12 < m {
+        return false;
+    }
+    if d < 1 {
+        return false;
+    }
+    d <= days_in(y, m)
+}
+
+// YYYYMMDD as one number.
+fn is_date(v: u64) -> bool
+    ensures { λ r. ⌜ r ≡ isDate v ⌝ }
+{
+    is_day(v / 10000, v / 100 % 100, v % 100)
+}
+
+// hhmmss as one number.
+fn is_time(v: u64) -> bool
+    ensures { λ r. ⌜ r ≡ isTime v ⌝ }
+{
+    if 23 < v / 10000 {
+        return false;
+    }
+    if 59 < v / 100 % 100 {
+        return false;
+    }
+    v % 100 <= 59
+}
+
+// Eight digits as one number.
+fn date_answer(v: u64) -> FieldAnswer
+    requires { ⌜ v < 2 ^ 63 ⌝ }
+    ensures { λ r. ⌜ r ≡ must (isDate v) (answers.Refused 9) (answers.Number (pos v)) ⌝ }
+{
+    if !is_date(v) {
+        return FieldAnswer::Refused(9);
+    }
+    FieldAnswer::Number(signed(false, v))
+}
+
+// A date is 8 digits, then a day of the calendar.
+fn judge_date(s: &[u8]) -> FieldAnswer
+    ensures { λ r. ⌜ r ≡ filled types.Date bare (now (s .entry)) ⌝ }
+{
+    if s.len() != 8 {
+        return FieldAnswer::Refused(8);
+    }
+    match read_digits(0, s) {
+        Spelt::Digits(v) => date_answer(v),
+        Spelt::Other => FieldAnswer::Refused(8),
+    }
+}
+
+// Fourteen digits as one number.
+fn datetime_answer(v: u64) -> FieldAnswer
+    requires { ⌜ v < 2 ^ 63 ⌝ }
+    ensures { λ r. ⌜ r ≡ must (isDate (v / 1000000) && isTime (v % 1000000)) (answers.Refused 9) (answers.Number (pos v)) ⌝ }
+{
+    if !is_date(v / 1000000) {
+        return FieldAnswer::Refused(9);
+    }
+    if !is_time(v % 1000000) {
+        return FieldAnswer::Refused(9);
+    }
+    FieldAnswer::Number(signed(false, v))
+}
+
+// A datetime is 14 digits, then a day of the calendar and a time of the day.
+fn judge_datetime(s: &[u8]) -> FieldAnswer
+    ensures { λ r. ⌜ r ≡ filled types.Datetime bare (now (s .entry)) ⌝ }
+{
+    if s.len() != 14 {
+        return FieldAnswer::Refused(8);
+    }
+    match read_digits(0, s) {
+        Spelt::Digits(v) => datetime_answer(v),
+        Spelt::Other => FieldAnswer::Refused(8),
+    }
+}
+
+// T or F.
+fn judge_bol(s: &[u8]) -> FieldAnswer
+    ensures { λ r. ⌜ r ≡ filled types.Bol bare (now (s .entry)) ⌝ }
+{
+    if s.len() != 1 {
+        return FieldAnswer::Refused(8);
+    }
+    if s[0] == 84 {
+        return FieldAnswer::Truth(true);
+    }
+    if s[0] == 70 {
+        return FieldAnswer::Truth(false);
+    }
+    FieldAnswer::Refused(8)
+}
+
+// Periods are 1 to 50.
+fn period_answer(v: u64) -> FieldAnswer
+    ensures { λ r. ⌜ r ≡ must (from-to 1 50 v) (answers.Refused 9) (answers.Number (pos v)) ⌝ }
+{
+    if v < 1 {
+        return FieldAnswer::Refused(9);
+    }
+    if 50 < v {
+        return FieldAnswer::Refused(9);
+    }
+    FieldAnswer::Number(signed(false, v))
+}
+
+// An int first; one below zero is out of range like one of too many digits.
+fn judge_period(s: &[u8]) -> FieldAnswer
+    ensures { λ r. ⌜ r ≡ filled types.Period bare (now (s .entry)) ⌝ }
+{
+    if minus(s) {
+        return int_of(true, &s[1..], 0);
+    }
+    if !leads_right(s) {
+        return FieldAnswer::Refused(8);
+    }
+    if 2 < s.len() {
+        return too_long(s);
+    }
+    match read_digits(0, s) {
+        Spelt::Digits(v) => period_answer(v),
+        Spelt::Other => FieldAnswer::Refused(8),
+    }
+}
+
+// A null field is never filled.
+fn judge_null(s: &[u8]) -> FieldAnswer
+    ensures { λ r. ⌜ r ≡ filled types.Null bare (now (s .entry)) ⌝ }
+{
+    if s.len() != 0 {
+        return FieldAnswer::Refused(8);
+    }
+    FieldAnswer::Empty
+}
+
+// No space at either end, listed characters, at most n of them.
+fn judge_text(class: &[u8; 256], s: &[u8], n: usize) -> FieldAnswer
+    requires { ⌜ IsClassTable (now class) ⌝ }
+    ensures { λ r. ⌜ r ≡ filled (types.Text n) bare (now (s .entry)) ⌝ }
+{
+    if s.len() == 0 {
+        return FieldAnswer::Text;
+    }
+    if s[0] == 32 {
+        return FieldAnswer::Refused(8);
+    }
+    if s[s.len() - 1] == 32 {
+        return FieldAnswer::Refused(8);
+    }
+    if !text::all_text(class, s) {
+        return FieldAnswer::Refused(8);
+    }
+    if n < s.len() {
+        return FieldAnswer::Refused(9);
+    }
+    FieldAnswer::Text
+}
+
+// Form, then range, then the value.
+fn judge_type(t: FieldType, class: &[u8; 256], s: &[u8]) -> FieldAnswer
+    requires { ⌜ Sound t × IsClassTable (now class) ⌝ }
+    ensures { λ r. ⌜ r ≡ filled t bare (now (s .entry)) ⌝ }
+{
+    match t {
+        FieldType::Text(n) => judge_text(class, s, n),
+        FieldType::Int(n) => judge_int(s, n),
+        FieldType::Dec(p, q) => judge_dec(s, p, q),
+        FieldType::Date => judge_date(s),
+        FieldType::Datetime => judge_datetime(s),
+        FieldType::Bol => judge_bol(s),
+        FieldType::Period => judge_period(s),
+        FieldType::Null => judge_null(s),
+    }
+}
+
+// The refusal's number, or 0.
+pub fn refusal(a: FieldAnswer) -> u8
+    ensures { λ r. ⌜ r ≡ refusalOf a ⌝ }
+{
+    match a {
+        FieldAnswer::Refused(n) => n,
+        FieldAnswer::Empty => 0,
+        FieldAnswer::Number(_) => 0,
+        FieldAnswer::Truth(_) => 0,
+        FieldAnswer::Text => 0,
+    }
+}
+
+// The type is null.
+fn is_null(t: FieldType) -> bool
+    ensures { λ r. ⌜ r ≡ isNull t ⌝ }
+{
+    match t {
+        FieldType::Text(_) => false,
+        FieldType::Int(_) => false,
+        FieldType::Dec(_, _) => false,
+        FieldType::Date => false,
+        FieldType::Datetime => false,
+        FieldType::Bol => false,
+        FieldType::Period => false,
+        FieldType::Null => true,
+    }
+}
+
+// A field with this mark may be empty, whatever bytes are lent beside it.
+fn is_opt(m: Mark) -> bool
+    ensures { λ r. ⌜ r ≡ mayBeEmpty (marked m []) ⌝ }
+{
+    match m {
+        Mark::Bare => false,
+        Mark::Opt => true,
+        Mark::Fixed => false,
+    }
+}
+
+// A fixed value is compared as bytes.
+fn meets_mark(m: Mark, fixed: &[u8], s: &[u8]) -> bool
+    ensures { λ r. ⌜ r ≡ meetsMark (marked m (now (fixed .entry))) (now (s .entry)) ⌝ }
+{
+    match m {
+        Mark::Bare => true,
+        Mark::Opt => true,
+        Mark::Fixed => text::same_bytes(fixed, s),
+    }
+}
+
+// A field by its type and mark: 7, 8, 9, 10, or what it holds.
+pub fn judge_marked(t: FieldType, m: Mark, fixed: &[u8], class: &[u8; 256], s: &[u8]) -> FieldAnswer
+    requires { ⌜ Sound t × IsClassTable (now class) ⌝ }
+    ensures { λ r. ⌜ r ≡ fieldAnswer t (marked m (now (fixed .entry))) (now (s .entry)) ⌝ }
+{
+    if is_null(t) {
+        if s.len() == 0 {
+            return FieldAnswer::Empty;
+        }
+        return FieldAnswer::Refused(10);
+    }
+    if s.len() == 0 {
+        if is_opt(m) {
+            return FieldAnswer::Empty;
+        }
+        return FieldAnswer::Refused(7);
+    }
+    let a = judge_type(t, class, s);
+    if refusal(a) != 0 {
+        return a;
+    }
+    if !meets_mark(m, fixed, s) {
+        return FieldAnswer::Refused(10);
+    }
+    a
+}
+
+// n is one of the numbers from lo to hi.
+fn within(lo: usize, hi: usize, n: usize) -> bool
+    ensures { λ r. ⌜ r ≡ from-to lo hi n ⌝ }
+{
+    if n < lo {
+        return false;
+    }
+    n <= hi
+}
+
+// The widths of a dec: p 2 to 18, q 1 to p-1.
+fn dec_width(p: usize, q: usize) -> bool
+    ensures { λ r. ⌜ r ≡ widthRight (types.Dec p q) ⌝ }
+{
+    if !within(2, 18, p) {
+        return false;
+    }
+    within(1, p - 1, q)
+}
+
+// The widths that there are: text 1 to 512, int 1 to 18, dec p 2 to 18 with q 1 to p-1.
+fn width_right(t: FieldType) -> bool
+    ensures { λ r. ⌜ r ≡ widthRight t ⌝ }
+{
+    match t {
+        FieldType::Text(n) => within(1, 512, n),
+        FieldType::Int(n) => within(1, 18, n),
+        FieldType::Dec(p, q) => dec_width(p, q),
+        FieldType::Date => true,
+        FieldType::Datetime => true,
+        FieldType::Bol => true,
+        FieldType::Period => true,
+        FieldType::Null => true,
+    }
+}
+
+// The judge of one field's bytes: any type, any width, any mark, any bytes.
+pub fn judge(t: FieldType, m: Mark, fixed: &[u8], s: &[u8]) -> FieldAnswer
+    ensures { λ r. ⌜ paper (now (s .entry)) r ≡ fieldJudged t (marked m (now (fixed .entry))) (now (s .entry)) ⌝ }
+{
+    if !width_right(t) {
+        return FieldAnswer::Refused(18);
+    }
+    let class = text::class_table();
+    judge_marked(t, m, fixed, &class, s)
+}
+
+// The bytes are the one spelling of v, in at most 10 digits.
+pub fn spells(s: &[u8], v: u64) -> bool
+    ensures { λ r. ⌜ r ≡ spelled v (now (s .entry)) ⌝ }
+{
+    if 10 < s.len() {
+        return false;
+    }
+    if !leads_right(s) {
+        return false;
+    }
+    match read_digits(0, s) {
+        Spelt::Digits(n) => n == v,
+        Spelt::Other => false,
+    }
+}
+
+// Two numbers without sign and leading zero: more digits is above.
+fn digits_order(a: &[u8], b: &[u8]) -> Order
+    ensures { λ r. ⌜ r ≡ digitsOrder (now (a .entry)) (now (b .entry)) ⌝ }
+{
+    if a.len() < b.len() {
+        return Order::Below;
+    }
+    if b.len() < a.len() {
+        return Order::Above;
+    }
+    text::text_order(a, b)
+}
+
+// Two numbers that may have a sign: those below zero stand below, and the other way round among themselves.
+fn whole_order(a: &[u8], b: &[u8]) -> Order
+    ensures { λ r. ⌜ r ≡ wholeOrder (now (a .entry)) (now (b .entry)) ⌝ }
+{
+    if minus(a) {
+        if minus(b) {
+            return digits_order(&b[1..], &a[1..]);
+        }
+        return Order::Below;
+    }
+    if minus(b) {
+        return Order::Above;
+    }
+    digits_order(a, b)
+}
+
+// How the key a stands to the key b: texts by byte, all others by value.
+pub fn key_order(t: FieldType, a: &[u8], b: &[u8]) -> Order
+    ensures { λ r. ⌜ r ≡ keyOrder t (now (a .entry)) (now (b .entry)) ⌝ }
+{
+    match t {
+        FieldType::Text(_) => text::text_order(a, b),
+        FieldType::Int(_) => whole_order(a, b),
+        FieldType::Dec(_, _) => whole_order(a, b),
+        FieldType::Date => whole_order(a, b),
+        FieldType::Datetime => whole_order(a, b),
+        FieldType::Bol => text::text_order(a, b),
+        FieldType::Period => whole_order(a, b),
+        FieldType::Null => text::text_order(a, b),
+    }
+}
