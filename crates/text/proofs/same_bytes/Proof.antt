@@ -30,7 +30,7 @@ shared-slice-read-if2-2 : tie.Need-shared-slice-read-if2-2 Inv-loop μ-loop
 shared-slice-read-if2-2 c = search needs
 
 returns-2 : tie.Need-returns-2 Inv-loop μ-loop
-returns-2 c = 
+returns-2 c =
     let l = c .before .before .before .before .loop in
     let h = c .before .before .before .loop-test .taken in
     sym (sym (l .inv .2) ∙ same-fails _ _ (l .i) h (rw (l .inv .1) at h) (c .if2 .taken))
@@ -42,13 +42,13 @@ loop-less : tie.Need-loop-less Inv-loop μ-loop
 loop-less c = search needs
 
 loop-again : tie.Need-loop-again Inv-loop μ-loop
-loop-again c = 
+loop-again c =
     let l = c .before .before .before .before .loop in
     let h = c .before .before .before .loop-test .taken in
     (search needs, l .inv .1, same-next _ _ (l .i) h (rw (l .inv .1) at h) (c .if2 .left) ∙ l .inv .2)
 
 returns-3 : tie.Need-returns-3 Inv-loop μ-loop
-returns-3 c = 
+returns-3 c =
     let l = c .before .loop in
     let h = c .loop-test .left in
     sym (sym (l .inv .2) ∙ same-end _ _ (l .i) h (rw (l .inv .1) at h))

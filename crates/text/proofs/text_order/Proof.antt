@@ -55,9 +55,11 @@ loop-less c = search needs
 
 loop-again : tie.Need-loop-again Inv-loop μ-loop
 loop-again c =
-    let l = c .before .before .before .before .before .before .before .before .loop in
-    (search needs, search needs,
-      order-next _ _ (l .i) (c .before .before .before .before .before .before .before .loop-test .taken) (c .before .before .before .before .before .before .if1 .left) (c .before .before .before .if2 .left) (c .if3 .left) ∙ l .inv .2)
+    let l = c .before .before .before .before .before .before .before .before .loop in (
+      search needs,
+      search needs,
+      order-next _ _ (l .i) (c .before .before .before .before .before .before .before .loop-test .taken) (c .before .before .before .before .before .before .if1 .left) (c .before .before .before .if2 .left) (c .if3 .left) ∙ l .inv .2,
+    )
 
 returns-4 : tie.Need-returns-4 Inv-loop μ-loop
 returns-4 c =

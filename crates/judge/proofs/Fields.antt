@@ -1,0 +1,252 @@
+-- Laws of the fields of one record: each by number, and each by its rule. Assumes nothing.
+use Prim.Native.Nat.{ℕ, zero, suc, _+_, _-_, _*_, _≤_, _<_}
+use mathlib.Core.Path.{_≡_, refl, sym, ap, _∙_}
+use mathlib.Core.Bool.{Bool, true, false, cond}
+use mathlib.Core.List.{List, [], _∷_}
+use native.Mathlib.Decide.{decLt}
+use native.Mathlib.Omega.{arith}
+use lib.Dec.{eqb}
+use lib.ListN.{length, take, drop, getD, List·getD-eq-default}
+use lib.Seq.{drop-drop, getD-drop}
+use borrow.Author.Tests.{eq-eqb, ne-eqb, eqb-true, eqb-false}
+use Rattle.text.specs.Rules.{must}
+use Rattle.record.specs.Records.{fields, field, fieldsFrom, run, IsPart}
+use Rattle.record.specs.Step.{IsField}
+use Rattle.record.proofs.Cursors.{from-past, field-found}
+use Rattle.record.proofs.Fields.{from-start, field-number}
+use Rattle.field.specs.Judge.{marked, fieldAnswer, refusalOf}
+use Rattle.field.specs.declared.FieldType.{FieldType}
+use Rattle.field.specs.declared.FieldAnswer.{FieldAnswer}
+use Rattle.field.specs.declared.Mark.{Mark}
+use Rattle.layout.specs.Layout.{Rule}
+use Rattle.layout.specs.Numbers.{word, typeOf, fixedOf, ruleOf, rulesFrom}
+use Rattle.layout.proofs.FieldRules.{from-length, from-drop, from-done, type-is}
+use Rattle.judge.specs.Fields.{fieldFault, fieldsFault}
+use Rattle.judge.specs.Record.{shapeFault}
+use Rattle.judge.specs.Code.{ShapeRight}
+use Rattle.judge.specs.declared.Check.{Check}
+use Rattle.judge.specs.declared.Check.the-variants.{Fine, Fault}
+use Rattle.judge.specs.declared.Shape.{Shape}
+use Rattle.judge.specs.declared.Shape.the-variants.{Wrong}
+
+-- the first field of a record, and the others
+module _ (sep : ℕ) (r : List ℕ) {a e n : ℕ} (x : IsField sep r 0 a e n) where
+  pub cut : fields sep r ≡ take (e - a) (drop a r) ∷ fieldsFrom sep n r
+  cut = sym (from-start sep r) ∙ x .splits
+
+  pub first-is : take (e - a) (drop a r) ≡ field sep 1 r
+  first-is = sym (field-number sep 0 r ∙ ap (λ (l : List (List ℕ)). getD l 0 []) cut)
+
+  pub rest-is : fieldsFrom sep n r ≡ drop 1 (fields sep r)
+  rest-is = sym (ap (drop 1) cut)
+
+  -- it starts at 0 and ends one place before the others
+  pub kind-cut : IsField sep r 0 0 (n - 1) n
+  kind-cut =
+      let w : e ≡ n - 1 = omega (arith, x .past) in
+      rw (x .starts, w) at x
+
+-- no bytes are a part of any
+pub none-part : (s : List ℕ) {p : List ℕ} → [] ≡ p → IsPart s 0 0 p
+none-part s e = record { ordered = omega arith; within = omega arith; is = e }
+
+-- field k among all fields
+by-number : (sep k : ℕ) (r : List ℕ) → (k ≡ 0 → ⊥) → getD (fields sep r) (k - 1) [] ≡ field sep k r
+by-number sep zero r h = absurd (h refl)
+by-number sep (suc k) r h =
+    let z : suc k - 1 ≡ k = omega arith in
+    rw z (sym (field-number sep k r))
+
+pub field-sought : (sep k : ℕ) (r : List ℕ) → (k ≡ 0 → ⊥) → getD (fieldsFrom sep 0 r) (k - 1) [] ≡ field sep k r
+field-sought sep k r h = ap (λ (l : List (List ℕ)). getD l (k - 1) []) (from-start sep r) ∙ by-number sep k r h
+
+pub field-zero : (sep k : ℕ) (r : List ℕ) → k ≡ 0 → IsPart r 0 0 (field sep k r)
+unfolding field
+field-zero sep k r h = rw h (none-part r refl)
+
+-- an element of a list that is not empty: the first, or one of the others
+at-first : (p : List ℕ) (m : List (List ℕ)) (k : ℕ) → k ≡ 0 → getD (p ∷ m) k [] ≡ p
+at-first p m k z = rw z
+
+at-rest : (p : List ℕ) (m : List (List ℕ)) (k : ℕ) → (k ≡ 0 → ⊥) → getD (p ∷ m) k [] ≡ getD m (k - 1) []
+at-rest p m zero h = absurd (h refl)
+at-rest p m (suc k) h =
+    let z : suc k - 1 ≡ k = omega arith in
+    rw z
+
+-- the search for a field: past the end, here, or among the others
+module _ (sep : ℕ) (r : List ℕ) (at left : ℕ) where
+  pub field-absent : length r < at → {p : List ℕ} → getD (fieldsFrom sep at r) left [] ≡ p → IsPart r 0 0 p
+  field-absent h e = none-part r (sym (ap (λ (l : List (List ℕ)). getD l left []) (from-past sep at r h)) ∙ e)
+
+  module _ {a e n : ℕ} (x : IsField sep r at a e n) where
+    abbrev here : List ℕ
+    here = take (e - a) (drop a r)
+
+    pub field-here : left ≡ 0 → {p : List ℕ} → getD (fieldsFrom sep at r) left [] ≡ p → IsPart r a e p
+    field-here h q =
+        record {
+          ordered = x .ordered;
+          within = x .within;
+          is = sym (ap (λ (l : List (List ℕ)). getD l left []) (x .splits) ∙ at-first here (fieldsFrom sep n r) left h) ∙ q;
+        }
+
+    pub field-later : (left ≡ 0 → ⊥) → getD (fieldsFrom sep n r) (left - 1) [] ≡ getD (fieldsFrom sep at r) left []
+    field-later h = sym (ap (λ (l : List (List ℕ)). getD l left []) (x .splits) ∙ at-rest here (fieldsFrom sep n r) left h)
+
+-- one field by the rule at p
+pub field-judged : (t fixed : List ℕ) (p : ℕ) (s : List ℕ) (m : Mark) {type : FieldType} {value : List ℕ} {a : FieldAnswer} {n : ℕ}
+    → type ≡ typeOf (word t p) → marked m (fixedOf t fixed p) ≡ ruleOf t fixed p .mark → value ≡ fixedOf t fixed p
+    → a ≡ fieldAnswer type (marked m value) s → n ≡ refusalOf a → n ≡ fieldFault (ruleOf t fixed p) s
+unfolding fieldFault
+field-judged t fixed p s m ty mk v a n =
+    let k = ty ∙ type-is t fixed p in
+    let q = ap (marked m) v ∙ mk in
+    n ∙ ap refusalOf (a ∙ (λ i. fieldAnswer (k i) (q i) s))
+
+-- what is said by the rules from f on of the fields from the place at on
+abbrev leftOf : List ℕ → List ℕ → ℕ → ℕ → ℕ → List ℕ → ℕ → ℕ → Check
+leftOf t fixed p n sep r f at = fieldsFault (drop f (rulesFrom t fixed p n)) (fieldsFrom sep at r) (f + 2)
+
+module _ (t fixed : List ℕ) (p n sep : ℕ) (r : List ℕ) where
+  all-left : (at : ℕ) → fieldsFrom sep at r ≡ drop 1 (fields sep r)
+      → leftOf t fixed p n sep r 0 at ≡ fieldsFault (rulesFrom t fixed p n) (drop 1 (fields sep r)) 2
+  all-left at e = ap (λ (l : List (List ℕ)). fieldsFault (rulesFrom t fixed p n) l 2) e
+
+  module _ (f at : ℕ) where
+    no-rule : n ≤ f → Fine ≡ leftOf t fixed p n sep r f at
+    unfolding fieldsFault
+    no-rule h = rw (from-done t fixed p n f h)
+
+    module _ (h : f < n) {a e m : ℕ} (x : IsField sep r at a e m) {number : ℕ} (is : number ≡ fieldFault (ruleOf t fixed (p + 3 * f)) (take (e - a) (drop a r))) where
+      field-fails : (number ≡ 0 → ⊥) → Fault number (f + 2) ≡ leftOf t fixed p n sep r f at
+      unfolding fieldsFault
+      field-fails z = rw (from-drop t fixed p n f h, x .splits, sym is, ne-eqb _ _ z)
+
+      field-passes : number ≡ 0 → leftOf t fixed p n sep r (f + 1) m ≡ leftOf t fixed p n sep r f at
+      unfolding fieldsFault
+      field-passes z =
+          let q : f + 1 + 2 ≡ f + 2 + 1 = omega arith in
+          rw (from-drop t fixed p n f h, x .splits, sym is, eq-eqb _ _ z, q)
+
+-- where f of the fields from 2 on are read by n rules: the others start at the place at, what is said of them is what is said of all,
+-- and field key, if it is read, stands from a up to e
+pub record Reading (t fixed : List ℕ) (p n sep key : ℕ) (r : List ℕ) (f at a e : ℕ) : Type 0 where
+  pub upto : f ≤ n
+  pub rest : fieldsFrom sep at r ≡ drop (f + 1) (fields sep r)
+  pub counted : length (fields sep r) ≡ f + 1 + length (fieldsFrom sep at r)
+  pub same : leftOf t fixed p n sep r f at ≡ fieldsFault (rulesFrom t fixed p n) (drop 1 (fields sep r)) 2
+  pub found : key < f + 2 → IsPart r a e (field sep key r)
+  pub ahead : f + 2 ≤ key → (a ≡ 0) × (e ≡ 0)
+
+module _ (t fixed : List ℕ) (p n sep key : ℕ) (r : List ℕ) where
+  abbrev rules : List Rule
+  rules = rulesFrom t fixed p n
+
+  abbrev count : ℕ
+  count = length (fields sep r)
+
+  -- the kind is read
+  module _ {at : ℕ} (x : IsField sep r 0 0 (at - 1) at) {a e : ℕ} where
+    first-found : (b : Bool) → eqb key 1 ≡ b → a ≡ cond b 0 0 → e ≡ cond b (at - 1) 0 → key < 2 → IsPart r a e (field sep key r)
+    first-found true h s d l =
+        rw (s, d, eqb-true key 1 h) (record { ordered = omega arith; within = x .within; is = first-is sep r x })
+    first-found false h s d l = rw (s, d) (field-zero sep key r (omega (arith, eqb-false key 1 h)))
+
+    first-ahead : (b : Bool) → eqb key 1 ≡ b → a ≡ cond b 0 0 → e ≡ cond b (at - 1) 0 → 2 ≤ key → (a ≡ 0) × (e ≡ 0)
+    first-ahead true h s d l = absurd (omega (arith, eqb-true key 1 h))
+    first-ahead false h s d l = (s, d)
+
+    pub reading-kind : a ≡ cond (eqb key 1) 0 0 → e ≡ cond (eqb key 1) (at - 1) 0 → Reading t fixed p n sep key r 0 at a e
+    reading-kind s d =
+        record {
+          upto = omega arith;
+          rest = rest-is sep r x;
+          counted = omega (arith, ap length (cut sep r x));
+          same = all-left t fixed p n sep r at (rest-is sep r x);
+          found = first-found (eqb key 1) refl s d;
+          ahead = first-ahead (eqb key 1) refl s d;
+        }
+
+  module _ {f at a e : ℕ} (w : Reading t fixed p n sep key r f at a e) where
+    -- one field more
+    module _ {i j m : ℕ} (x : IsField sep r at i j m) where
+      split : take (j - i) (drop i r) ∷ fieldsFrom sep m r ≡ drop (f + 1) (fields sep r)
+      split = sym (x .splits) ∙ w .rest
+
+      here-is : take (j - i) (drop i r) ≡ field sep (f + 2) r
+      here-is =
+          let z : f + 1 + 0 ≡ f + 2 - 1 = omega arith in
+          ap (λ (l : List (List ℕ)). getD l 0 []) split ∙ getD-drop (f + 1) (fields sep r) 0 []
+          ∙ ap (λ (k : ℕ). getD (fields sep r) k []) z ∙ by-number sep (f + 2) r (λ q. omega arith)
+
+      module _ {a′ e′ : ℕ} where
+        next-found : (b : Bool) → eqb (f + 2) key ≡ b → a′ ≡ cond b i a → e′ ≡ cond b j e → key < f + 1 + 2 → IsPart r a′ e′ (field sep key r)
+        next-found true h s d l = rw (s, d, sym (eqb-true (f + 2) key h)) (record { ordered = x .ordered; within = x .within; is = here-is })
+        next-found false h s d l = rw (s, d) (w .found (omega (arith, eqb-false (f + 2) key h)))
+
+        next-ahead : (b : Bool) → eqb (f + 2) key ≡ b → a′ ≡ cond b i a → e′ ≡ cond b j e → f + 1 + 2 ≤ key → (a′ ≡ 0) × (e′ ≡ 0)
+        next-ahead true h s d l = absurd (omega (arith, eqb-true (f + 2) key h))
+        next-ahead false h s d l =
+            let z = w .ahead (omega arith) in
+            (s ∙ z .0, d ∙ z .1)
+
+      module _ (h : f < n) {number : ℕ} (is : number ≡ fieldFault (ruleOf t fixed (p + 3 * f)) (take (j - i) (drop i r))) where
+        pub reading-next : number ≡ 0 → {a′ e′ : ℕ} → a′ ≡ cond (eqb (f + 2) key) i a → e′ ≡ cond (eqb (f + 2) key) j e → Reading t fixed p n sep key r (f + 1) m a′ e′
+        reading-next z s d =
+            record {
+              upto = omega arith;
+              rest = ap (drop 1) split ∙ drop-drop 1 (f + 1) (fields sep r);
+              counted = omega (arith, w .counted, ap length (x .splits));
+              same = field-passes t fixed p n sep r f at h x is z ∙ w .same;
+              found = next-found (eqb (f + 2) key) refl s d;
+              ahead = next-ahead (eqb (f + 2) key) refl s d;
+            }
+
+        -- or it is wrong, and a wrong number of fields comes first
+        pub reading-wrong : (number ≡ 0 → ⊥) → shapeFault sep (rulesFrom t fixed p n) r ≡ must (eqb (length (fields sep r)) (n + 1)) (Fault 6 0) (Fault number (f + 2))
+        unfolding shapeFault
+        reading-wrong z =
+            let q = field-fails t fixed p n sep r f at h x is z ∙ w .same in
+            λ i. must (eqb count (from-length t fixed p n i + 1)) (Fault 6 0) (sym q i)
+
+    -- too few fields
+    pub reading-short : f < n → length r < at → shapeFault sep (rulesFrom t fixed p n) r ≡ Fault 6 0
+    unfolding shapeFault
+    reading-short h l =
+        let q : count ≡ length rules + 1 → ⊥ = λ z. omega (arith, w .counted, ap length (from-past sep at r l), from-length t fixed p n) in
+        rw (ne-eqb _ _ q)
+
+    module _ (all : n ≤ f) where
+      -- too many
+      pub reading-over : at ≤ length r → shapeFault sep (rulesFrom t fixed p n) r ≡ Fault 6 0
+      unfolding shapeFault
+      reading-over l =
+          let x = field-found sep r at (at + run sep (drop at r)) l refl in
+          let q : count ≡ length rules + 1 → ⊥ = λ z. omega (arith, w .counted, w .upto, ap length (x .splits), from-length t fixed p n) in
+          rw (ne-eqb _ _ q)
+
+      -- as many as there are rules
+      module _ (l : length r < at) where
+        counted-all : count ≡ n + 1
+        counted-all = omega (arith, w .counted, w .upto, ap length (from-past sep at r l))
+
+        key-go : Dec (key < f + 2) → IsPart r a e (field sep key r)
+        key-go (yes h) = w .found h
+        key-go (no h) =
+            let z = w .ahead (omega arith) in
+            let past : length (fields sep r) ≤ key - 1 = omega (arith, counted-all, w .upto) in
+            rw (z .0, z .1)
+            (none-part r (sym (List·getD-eq-default (fields sep r) [] {n = key - 1} past) ∙ by-number sep key r (λ q. omega arith)))
+
+        pub reading-done : (shapeFault sep (rulesFrom t fixed p n) r ≡ Fine) × IsPart r a e (field sep key r)
+        unfolding shapeFault
+        reading-done =
+            let q : count ≡ length rules + 1 = omega (arith, counted-all, from-length t fixed p n) in
+            (rw (eq-eqb _ _ q) (sym (no-rule t fixed p n sep r f at all ∙ w .same)), key-go (decLt key (f + 2)))
+
+-- a fault before which a wrong number of fields comes
+pub shape-wrong : (b : Bool) (sep key : ℕ) (rs : List Rule) (r : List ℕ) (number f : ℕ) {s : Shape} → s ≡ must b (Wrong 6 0) (Wrong number f)
+    → shapeFault sep rs r ≡ must b (Fault 6 0) (Fault number f) → ShapeRight sep key rs r s
+shape-wrong true sep key rs r number f e q = rw e q
+shape-wrong false sep key rs r number f e q = rw e q

@@ -1,0 +1,12 @@
+pub mod Fields
+pub mod Leaves
+pub mod Keys
+pub mod Slots
+pub mod Files
+pub mod RightEach
+pub mod RightFields
+pub mod RightKinds
+pub mod RightKeys
+pub mod Demand2
+pub mod Examples
+pub mod Flows

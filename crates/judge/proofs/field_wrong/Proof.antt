@@ -1,0 +1,21 @@
+-- `field_wrong` is right: the count is that of the fields.
+use borrow.Author.Needs.{needs}
+use borrow.Author.Tests.{eq-eqb, ne-eqb}
+use mathlib.Core.Path.{sym}
+use Rattle.judge.proofs.field_wrong.Statement.{statement}
+use Rattle.judge.proofs.field_wrong.Tie as tie
+
+count-fields-requires : tie.Need-count-fields-requires
+count-fields-requires c κs = search needs
+
+add-if1 : tie.Need-add-if1
+add-if1 c = search needs
+
+returns : tie.Need-returns
+returns c = rw (sym (c .before .count-fields .ensures), ne-eqb _ _ (c .if1 .taken))
+
+returns-2 : tie.Need-returns-2
+returns-2 c = rw (sym (c .before .count-fields .ensures), eq-eqb _ _ (c .if1 .left))
+
+pub field-wrong-spec : {M : Type 1} → statement M
+field-wrong-spec = tie.close (tie.spec count-fields-requires add-if1 returns returns-2)

@@ -1,0 +1,70 @@
+-- What is said of a whole file (document 01, "Refusal numbers"). Assumes nothing.
+use Prim.Native.Nat.{ℕ, _+_, _-_}
+use mathlib.Core.Bool.{Bool, true, false, not, _||_}
+use mathlib.Core.List.{List, [], _∷_, _++_}
+use lib.Dec.{eqb, leb}
+use lib.ListN.{length, getD}
+use Rattle.text.specs.Rules.{must}
+use Rattle.record.specs.Records.{records}
+use Rattle.layout.specs.Layout.{Layout, isFooter}
+use Rattle.flow.specs.Publication.{layoutFor}
+use Rattle.flow.specs.Flows.{held, flowNamed}
+use Rattle.judge.specs.Record.{lastKind, fault}
+use Rattle.judge.specs.declared.Check.{Check}
+use Rattle.judge.specs.declared.Check.the-variants.{Fine, Fault}
+use Rattle.judge.specs.declared.Verdict.{Verdict}
+use Rattle.judge.specs.declared.Verdict.the-variants.{Accepted, Refused}
+
+-- the byte that parts fields in a file
+abbrev pub bar : ℕ
+bar = 0x7C
+
+-- a fault at record n is a refusal, and without one something more is said
+abbrev pub atRecord : ℕ → Check → Verdict → Verdict
+atRecord n Fine later = later
+atRecord n (Fault number f) later = Refused number n f
+
+-- each record in turn, those before it passed: the first fault, or that there is none in so many records
+unfoldable pub checkedFrom : ℕ → Layout → List (List ℕ) → List (List ℕ) → Verdict
+checkedFrom sep l before [] = Accepted (length before)
+checkedFrom sep l before (r ∷ rs) = atRecord (length before + 1) (fault sep l before r) (checkedFrom sep l (before ++ r ∷ []) rs)
+
+-- the last byte is a line feed
+abbrev pub endsInFeed : List ℕ → Bool
+endsInFeed f = eqb (getD f (length f - 1) 0) 0x0A
+
+-- after n records, the last of kind last: 14 where they end before ZPT, 15 where the last line feed is absent and needed
+unfoldable pub ended : Layout → ℕ → ℕ → Bool → Verdict
+ended l n last feed =
+    must (isFooter l last) (Refused 14 (n + 1) 0)
+    (must (not (l .feed) || feed) (Refused 15 n 0)
+    (Accepted n))
+
+-- where no record is refused, what is said at the end
+abbrev pub finish : Verdict → Verdict → Verdict
+finish (Accepted n) end = end
+finish (Refused number r f) end = Refused number r f
+
+-- a file by a layout: 2 for one over its limit, then the records, then the end
+unfoldable pub judgedBy : Layout → List ℕ → Verdict
+judgedBy l f =
+    must (leb (length f) 1048576) (Refused 2 0 0)
+    (finish (checkedFrom bar l [] (records f)) (ended l (length (records f)) (lastKind bar l (records f)) (endsInFeed f)))
+
+-- a file for a flow: 1 where we hold no such flow
+unfoldable pub verdict : List ℕ → List ℕ → Verdict
+verdict name f = must (held name) (Refused 1 0 0) (judgedBy (layoutFor (flowNamed name)) f)
+
+-- document 01's answers: an acceptance gives the number of records, a refusal its number, record and field
+pub data Reply : Type 0 where
+  accepted : ℕ → Reply
+  refused : ℕ → ℕ → ℕ → Reply
+
+-- what each case of the code's answer says in document 01's terms
+abbrev pub paper : Verdict → Reply
+paper (Accepted n) = accepted n
+paper (Refused number r f) = refused number r f
+
+-- judge a file for a flow
+unfoldable pub judged : List ℕ → List ℕ → Reply
+judged name f = paper (verdict name f)

@@ -1,0 +1,5 @@
+pub mod Fields
+pub mod Record
+pub mod File
+pub mod Code
+pub mod Right

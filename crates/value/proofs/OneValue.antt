@@ -1,0 +1,73 @@
+-- Two answers that say the same in document 01's terms are the same answer, so only one meets the promise of `value_of`. Assumes nothing.
+use Prim.Native.Nat.{ℕ}
+use mathlib.Core.Path.{_≡_, refl, sym, ap, subst, _∙_}
+use mathlib.Core.List.{List}
+use Rattle.judge.specs.File.{verdict, judged, paper as verdictPaper, Reply as VerdictReply, accepted, refused as refusedFile}
+use Rattle.judge.specs.declared.Verdict.{Verdict}
+use Rattle.judge.specs.declared.Verdict.the-variants as verdicts
+use Rattle.layout.specs.Layout.{Layout}
+use Rattle.flow.specs.Publication.{layoutFor}
+use Rattle.flow.specs.Flows.{flowNamed}
+use Rattle.value.specs.Value.{Reply, refused, empty, number, truth, text, paper, ofAccepted, valueBy, valueIn, valued}
+use Rattle.value.specs.Code.{TextWithin}
+use Rattle.value.specs.declared.Value.{Value}
+use Rattle.value.specs.declared.Value.the-variants.{Refused, Empty, Number, Truth, Text}
+use Rattle.value.proofs.Places.{text-within}
+
+-- the answer that says this
+abbrev said : Reply → Value
+said (refused n r k) = Refused n r k
+said empty = Empty
+said (number z) = Number z
+said (truth b) = Truth b
+said (text from to bytes) = Text from to
+
+said-paper : (f : List ℕ) (v : Value) → said (paper f v) ≡ v
+said-paper f (Refused n r k) = refl
+said-paper f Empty = refl
+said-paper f (Number z) = refl
+said-paper f (Truth b) = refl
+said-paper f (Text from to) = refl
+
+pub paper-one : (f : List ℕ) (v w : Value) → paper f v ≡ paper f w → v ≡ w
+paper-one f v w e = sym (said-paper f v) ∙ ap said e ∙ said-paper f w
+
+-- what is promised is the answer of the definition, and no other
+pub promised : (name f : List ℕ) (n k : ℕ) (v : Value) → paper f v ≡ valued name f n k → v ≡ valueIn name f n k
+unfolding valued
+promised name f n k v e = paper-one f v (valueIn name f n k) e
+
+pub one-value : (name f : List ℕ) (n k : ℕ) (v w : Value) → paper f v ≡ valued name f n k → paper f w ≡ valued name f n k
+    → v ≡ w
+one-value name f n k v w e q = paper-one f v w (e ∙ sym q)
+
+-- the same of the reader
+abbrev saidOf : VerdictReply → Verdict
+saidOf (accepted n) = verdicts.Accepted n
+saidOf (refusedFile m r k) = verdicts.Refused m r k
+
+said-verdict : (v : Verdict) → saidOf (verdictPaper v) ≡ v
+said-verdict (verdicts.Accepted n) = refl
+said-verdict (verdicts.Refused m r k) = refl
+
+module _ (name f : List ℕ) (n k : ℕ) where
+  -- both promises, of the definition's answer
+  pub right : {v : Value} → v ≡ valueIn name f n k → (paper f v ≡ valued name f n k) × TextWithin f v
+  unfolding valued
+  right e = (ap (paper f) e, subst (TextWithin f) (sym e) (text-within name f n k))
+
+  -- the value by the reader's verdict
+  abbrev after : Verdict → Value
+  after w = ofAccepted w (valueBy (layoutFor (flowNamed name)) f n k)
+
+  module _ (v : Verdict) (e : verdictPaper v ≡ judged name f) where
+    by-verdict : after v ≡ valueIn name f n k
+    unfolding judged valueIn
+    by-verdict = ap after (sym (said-verdict v) ∙ ap saidOf e ∙ said-verdict (verdict name f))
+
+    pub reader-refused : {m r c : ℕ} → v ≡ verdicts.Refused m r c → Refused m r c ≡ valueIn name f n k
+    reader-refused q = ap after (sym q) ∙ by-verdict
+
+    pub reader-accepted : {m : ℕ} → v ≡ verdicts.Accepted m → (l : Layout) → l ≡ layoutFor (flowNamed name)
+        → {w : Value} → w ≡ valueBy l f n k → w ≡ valueIn name f n k
+    reader-accepted q l e is = is ∙ ap (λ (x : Layout). valueBy x f n k) e ∙ ap after (sym q) ∙ by-verdict

@@ -1,0 +1,118 @@
+-- The value of a field by what the code finds: its record, its place, and the rule of its kind. Assumes nothing.
+use Prim.Native.Nat.{ℕ, zero, suc, _+_, _-_, _*_, _≤_, _<_}
+use mathlib.Core.Path.{_≡_, refl, sym, ap, _∙_}
+use mathlib.Core.Bool.{Bool, true, false, _&&_}
+use mathlib.Core.List.{List}
+use native.Mathlib.Omega.{arith}
+use lib.ListN.{length, take, drop, List·getD-eq-default}
+use borrow.Author.Tests.{le-leb, lt-leb, eq-eqb, ne-eqb}
+use Rattle.text.specs.Rules.{must}
+use Rattle.text.specs.Characters.{from-to}
+use Rattle.record.specs.Records.{records, fields, field}
+use Rattle.record.proofs.Cursors.{part-length}
+use Rattle.field.specs.Judge.{bare, marked, fieldAnswer}
+use Rattle.field.specs.declared.FieldType.{FieldType}
+use Rattle.field.specs.declared.FieldType.the-variants as types
+use Rattle.field.specs.declared.FieldAnswer.{FieldAnswer}
+use Rattle.field.specs.declared.Mark.{Mark}
+use Rattle.layout.specs.Layout.{Rule, Layout, row}
+use Rattle.layout.specs.Numbers.{word, typeOf, fixedOf, ruleOf, layoutOf, RulesOf}
+use Rattle.layout.proofs.FieldRules.{rules-length, rule-at, type-is}
+use Rattle.judge.specs.Record.{kindOf}
+use Rattle.judge.specs.File.{bar}
+use Rattle.value.specs.Value.{recordAt, isThere, extent, placeOf, ruleFor, byRule, asValue, fieldValue, valueBy}
+use Rattle.value.specs.Code.{Stands, Placed}
+use Rattle.value.specs.declared.Value.{Value}
+use Rattle.value.specs.declared.Value.the-variants.{Refused, Text}
+use Rattle.value.proofs.Places.{by-number}
+
+-- field k of a record of kind j, whose m rules stand at p
+module _ (t fixed : List ℕ) (j p m : ℕ) (rules : RulesOf t fixed j p m) (k : ℕ) (s : List ℕ) where
+  abbrev none : Rule
+  none = record { type = types.Null; mark = bare }
+
+  pub ruled : k - 2 < m → (mark : Mark) {type : FieldType} {value : List ℕ} {a : FieldAnswer}
+      → type ≡ typeOf (word t (p + 3 * (k - 2))) → marked mark (fixedOf t fixed (p + 3 * (k - 2))) ≡ ruleOf t fixed (p + 3 * (k - 2)) .mark
+      → value ≡ fixedOf t fixed (p + 3 * (k - 2)) → a ≡ fieldAnswer type (marked mark value) s
+      → a ≡ byRule (ruleFor (layoutOf t fixed) j k) s
+  ruled h mark ty mk v is =
+      let q = ty ∙ type-is t fixed (p + 3 * (k - 2)) in
+      let w = ap (marked mark) v ∙ mk in
+      is ∙ (λ i. fieldAnswer (q i) (w i) s) ∙ sym (ap (λ (r : Rule). byRule r s) (rule-at t fixed j p m rules none (k - 2) h))
+
+  -- past the rules, null's
+  pub unruled : m ≤ k - 2 → {a : FieldAnswer} → a ≡ fieldAnswer types.Null bare s → a ≡ byRule (ruleFor (layoutOf t fixed) j k) s
+  unruled h is =
+      let past : length (row (layoutOf t fixed) j .rules) ≤ k - 2 = omega (arith, rules-length t fixed j p m rules) in
+      is ∙ sym (ap (λ (r : Rule). byRule r s) (List·getD-eq-default (row (layoutOf t fixed) j .rules) none {n = k - 2} past))
+
+-- a number from 1 to n, and one that is 0 or above n
+counts : (n k : ℕ) → 1 ≤ k → k ≤ n → from-to 1 n k ≡ true
+counts n k h g = rw (le-leb 1 k h, le-leb k n g)
+
+counts-not : (n k : ℕ) → (1 ≤ k → n < k) → from-to 1 n k ≡ false
+counts-not n zero h = refl
+counts-not n (suc k) h = rw (le-leb 1 (suc k) (omega arith), lt-leb (suc k) n (h (omega arith)))
+
+module _ (l : Layout) (f : List ℕ) (n k : ℕ) where
+  abbrev lastly : Bool → Value
+  lastly b = must b (Refused 18 n k) (fieldValue l f n k)
+
+  abbrev fieldThere : List ℕ → Bool
+  fieldThere r = from-to 1 (length (fields bar r)) k
+
+  -- there is no such record
+  pub no-record : (1 ≤ n → length (records f) < n) → Refused 18 n k ≡ valueBy l f n k
+  unfolding valueBy isThere
+  no-record h = sym (ap (λ (b : Bool). lastly (b && fieldThere (recordAt f n))) (counts-not (length (records f)) n h))
+
+  -- there is, and it is the bytes r
+  module _ {start end : ℕ} (x : Stands (records f) f n start end) where
+    abbrev r : List ℕ
+    r = take (end - start) (drop start f)
+
+    there-is : fieldThere r ≡ isThere f n k
+    unfolding isThere
+    there-is =
+        let yes = counts (length (records f)) n (x .least) (x .most) in
+        λ i. sym yes i && fieldThere (x .is .is i)
+
+    -- there is no such field in it
+    pub no-field : (1 ≤ k → length (fields bar r) < k) → Refused 18 n k ≡ valueBy l f n k
+    unfolding valueBy
+    no-field h = sym (ap lastly (sym there-is ∙ counts-not (length (fields bar r)) k h))
+
+    -- there is, and it stands from a up to e in the record
+    module _ {a e : ℕ} (y : Stands (fields bar r) r k a e) where
+      abbrev s : List ℕ
+      s = take (e - a) (drop a r)
+
+      bytes-are : s ≡ field bar k (recordAt f n)
+      bytes-are = y .is .is ∙ by-number bar k r (y .least) ∙ ap (field bar k) (x .is .is)
+
+      pub placed : Placed f n k (start + a) (start + e)
+      unfolding placeOf
+      placed =
+          let q : a ≡ extent (take (k - 1) (fields bar (recordAt f n))) =
+          y .starts ∙ ap (λ (u : List ℕ). extent (take (k - 1) (fields bar u))) (x .is .is) in
+          record {
+            starts = omega (arith, x .starts, q);
+            ends = omega (arith, x .starts, q, y .is .ordered, part-length r a e (y .is .ordered) (y .is .within), ap length bytes-are);
+          }
+
+      found : valueBy l f n k ≡ fieldValue l f n k
+      unfolding valueBy
+      found = ap lastly (sym there-is ∙ counts (length (fields bar r)) k (y .least) (y .most))
+
+      -- a kind
+      pub kind-value : k ≡ 1 → Text (start + a) (start + e) ≡ valueBy l f n k
+      unfolding fieldValue
+      kind-value z = (λ i. Text (placed .starts i) (placed .ends i)) ∙ sym (found ∙ rw (eq-eqb k 1 z))
+
+      -- any other field
+      pub ruled-value : (k ≡ 1 → ⊥) → {j : ℕ} {answer : FieldAnswer} {v : Value} → j ≡ kindOf bar l r → answer ≡ byRule (ruleFor l j k) s
+          → v ≡ asValue f n k answer → v ≡ valueBy l f n k
+      unfolding fieldValue
+      ruled-value z kind is v =
+          let j = kind ∙ ap (kindOf bar l) (x .is .is) in
+          v ∙ ap (asValue f n k) (is ∙ (λ i. byRule (ruleFor l (j i) k) (bytes-are i))) ∙ sym (found ∙ rw (ne-eqb k 1 z))

@@ -1,0 +1,185 @@
+// The value of one field of a file.
+use field::FieldAnswer;
+use field::FieldType;
+use field::Mark;
+use judge::Verdict;
+use record::Cursor;
+use record::FieldCursor;
+use record::FieldStep;
+use record::Step;
+ghost use mathlib.Core.Path.{_≡_};
+ghost use mathlib.Core.List.{List};
+ghost use Prim.Native.Nat.{ℕ, _≤_};
+ghost use Rattle.layout.specs.Numbers.{layoutOf};
+ghost use Rattle.value.specs.Value.{ruleFor, byRule, asValue, valueBy, valued, paper};
+ghost use Rattle.value.specs.Code.{RecordFound, FieldFound, Placed, TextWithin};
+
+// A refusal with number, record and field; or a value. A text's value is where its bytes start and end in the file.
+pub enum Value {
+    Refused {
+        number: usize,
+        record: usize,
+        field: usize,
+    },
+    Empty,
+    Number(i64),
+    Truth(bool),
+    Text {
+        from: usize,
+        to: usize,
+    },
+}
+
+// Where a record or a field starts and ends; or there is none.
+pub enum Found {
+    At { start: usize, end: usize },
+    Nothing,
+}
+
+// Record n of a file, counted from 1.
+fn record_at(f: &[u8], n: usize) -> Found
+    ensures { λ r. ⌜ RecordFound (now (f .entry)) n r ⌝ }
+{
+    if n == 0 {
+        return Found::Nothing;
+    }
+    let mut c = Cursor { at: 0 };
+    let mut left = n - 1;
+    loop {
+        match c.step(f) {
+            Step::Done => {
+                return Found::Nothing;
+            }
+            Step::Record { start, end, next } => {
+                if left == 0 {
+                    return Found::At {
+                        start: start,
+                        end: end,
+                    };
+                }
+                left -= 1;
+                c = next;
+            }
+        }
+    }
+}
+
+// Field k of a record, counted from 1.
+fn field_at(r: &[u8], k: usize) -> Found
+    ensures { λ p. ⌜ FieldFound (now (r .entry)) k p ⌝ }
+{
+    if k == 0 {
+        return Found::Nothing;
+    }
+    let mut c = FieldCursor { at: 0 };
+    let mut left = k - 1;
+    loop {
+        match c.step(b'|', r) {
+            FieldStep::Done => {
+                return Found::Nothing;
+            }
+            FieldStep::Field { start, end, next } => {
+                if left == 0 {
+                    return Found::At {
+                        start: start,
+                        end: end,
+                    };
+                }
+                left -= 1;
+                c = next;
+            }
+        }
+    }
+}
+
+// Field k, past the kind, of a record of kind j, by its rule.
+fn answer_by(t: &[u32], fixed: &[u8], j: usize, k: usize, s: &[u8]) -> FieldAnswer
+    requires { ⌜ 2 ≤ k ⌝ }
+    ensures { λ a. ⌜ a ≡ byRule (ruleFor (layoutOf (now (t .entry)) (now (fixed .entry))) j k) (now (s .entry)) ⌝ }
+{
+    let class = text::class_table();
+    let rules = layout::rules_of(t, j);
+    if rules.count <= k - 2 {
+        return field::judge_marked(FieldType::Null, Mark::Bare, fixed, &class, s);
+    }
+    let p = rules.place + 3 * (k - 2);
+    let kind = layout::type_at(t, p);
+    let mark = layout::mark_at(t, p);
+    let value = layout::fixed_at(t, fixed, p);
+    field::judge_marked(kind, mark, value, &class, s)
+}
+
+// The answer of field k of record n as a value; a text stands from `from` up to `to` in the file.
+fn as_value(a: FieldAnswer, n: usize, k: usize, from: usize, to: usize) -> Value
+    ensures { λ v. ⌜ ((f : List ℕ) → Placed f n k from to → v ≡ asValue f n k a) ⌝ }
+{
+    match a {
+        FieldAnswer::Refused(number) => Value::Refused {
+            number: number as usize,
+            record: n,
+            field: k,
+        },
+        FieldAnswer::Empty => Value::Empty,
+        FieldAnswer::Number(z) => Value::Number(z),
+        FieldAnswer::Truth(b) => Value::Truth(b),
+        FieldAnswer::Text => Value::Text { from: from, to: to },
+    }
+}
+
+// Field k of record n by a table: 18 where there is none, a kind's bytes, or its value by its rule.
+fn value_by(t: &[u32], fixed: &[u8], f: &[u8], n: usize, k: usize) -> Value
+    ensures { λ v. ⌜ v ≡ valueBy (layoutOf (now (t .entry)) (now (fixed .entry))) (now (f .entry)) n k ⌝ }
+{
+    let Found::At { start, end } = record_at(f, n) else {
+        return Value::Refused {
+            number: 18,
+            record: n,
+            field: k,
+        };
+    };
+    let r = &f[start..end];
+    let Found::At { start: a, end: e } = field_at(r, k) else {
+        return Value::Refused {
+            number: 18,
+            record: n,
+            field: k,
+        };
+    };
+    if k == 1 {
+        return Value::Text {
+            from: start + a,
+            to: start + e,
+        };
+    }
+    let j = judge::kind_of(t, b'|', r);
+    as_value(
+        answer_by(t, fixed, j, k, &r[a..e]),
+        n,
+        k,
+        start + a,
+        start + e,
+    )
+}
+
+// The value of field k of record n of a file for a flow: the reader's refusals, 18, or the value. Any name, any bytes, any numbers.
+pub fn value_of(flow: &[u8], f: &[u8], n: usize, k: usize) -> Value
+    ensures { λ v. ⌜ (paper (now (f .entry)) v ≡ valued (now (flow .entry)) (now (f .entry)) n k) × TextWithin (now (f .entry)) v ⌝ }
+{
+    match judge::judge(flow, f) {
+        Verdict::Refused {
+            number,
+            record,
+            field,
+        } => Value::Refused {
+            number: number,
+            record: record,
+            field: field,
+        },
+        Verdict::Accepted(_) => {
+            let table = flow::table_of(flow::flow_number(flow));
+            let numbers = table.numbers;
+            let fixed = table.fixed;
+            value_by(&numbers, &fixed, f, n, k)
+        }
+    }
+}
