@@ -14,7 +14,7 @@ use Rattle.layout.specs.Layout.{among, find}
 use Rattle.flow.specs.Letters.{P0138001}
 use Rattle.flow.specs.Flows.{flowNumber}
 use Rattle.judge.specs.Fields.{fieldFault, fieldsFault}
-use Rattle.judge.specs.Record.{lastKind, keyWith, keyBefore, placeFault, keyFault, footerFault, kindFault, fault}
+use Rattle.judge.specs.Record.{lastKind, keyWith, keyBefore, placeFault, shapeFault, keyFault, footerFault, kindFault, fault}
 use Rattle.judge.specs.File.{checkedFrom, ended, judgedBy, verdict}
 use Rattle.value.specs.Value.{isThere, extent, placeOf, fieldValue, valueBy, valueIn, valued, Reply, refused, empty, number, text}
 
@@ -57,7 +57,7 @@ table =
 
 -- each is answered as document 01 says
 pub value-cases : given example table ≡ expected table
-unfolding given expected example table joined onto records fields field barOf barred words addRecord checksum minus unsigned plain intForm intValue decForm decValue spelled leap daysIn isDay isDate isTime textForm form range valueOf filled fieldAnswer among find flowNumber isDigit isText fieldFault fieldsFault lastKind keyWith keyBefore placeFault keyFault footerFault kindFault fault checkedFrom ended judgedBy verdict isThere extent placeOf fieldValue valueBy valueIn valued
+unfolding given expected example table joined onto records fields field barOf barred words addRecord checksum minus unsigned plain intForm intValue decForm decValue spelled leap daysIn isDay isDate isTime textForm form range valueOf filled fieldAnswer among find flowNumber isDigit isText fieldFault fieldsFault lastKind keyWith keyBefore placeFault shapeFault keyFault footerFault kindFault fault checkedFrom ended judgedBy verdict isThere extent placeOf fieldValue valueBy valueIn valued
 value-cases = refl
 
 -- of a refused file the reader's refusal, whatever is asked: the empty file is 14 at record 1
