@@ -4,6 +4,8 @@ use second::answer::{answer, BAD_HEADER};
 use second::cases::Generator;
 use second::census::census;
 use second::compare::compare;
+use second::draw::picture;
+use second::flows::named;
 use second::stream::cases_of;
 use std::fs;
 use std::io::{self, BufWriter, Read, Write};
@@ -14,6 +16,7 @@ const USAGE: &str = "usage:
   second cases SEED COUNT [KINDS] > STREAM
   second census < STREAM
   second compare STREAM ANSWERS [CASE-FILE]
+  second draw FLOW > PICTURE.svg
 KINDS is a comma list of judge, value, field, sum, step, write, read.";
 
 /// What a command comes to: all is well, or something was found, or it could not run.
@@ -33,6 +36,7 @@ fn main() -> ExitCode {
         ["census"] => count_answers(),
         ["compare", stream, answers] => compare_files(stream, answers, "difference.case"),
         ["compare", stream, answers, kept] => compare_files(stream, answers, kept),
+        ["draw", flow] => draw(flow),
         _ => Ok(End::Wrong(USAGE.to_string())),
     };
     match end {
@@ -111,4 +115,14 @@ fn compare_files(stream: &str, answers: &str, kept: &str) -> io::Result<End> {
     }
     writeln!(out, "{} cases, {} differences", found.cases, found.differences)?;
     Ok(if found.differences == 0 { End::Well } else { End::Found })
+}
+
+fn draw(flow: &str) -> io::Result<End> {
+    match named(flow.as_bytes()) {
+        Some(flow) => {
+            io::stdout().lock().write_all(picture(flow).as_bytes())?;
+            Ok(End::Well)
+        }
+        None => Ok(End::Wrong(format!("no such flow: {}", flow))),
+    }
 }

@@ -1,4 +1,4 @@
-// A file judged for a flow: one record against a table and a running state, the loop over a file, and the value of one field.
+// A file judged for a flow: one record against a table and a running state, and the loop over a file.
 use field::FieldType;
 use record::Cursor;
 use record::FieldCursor;

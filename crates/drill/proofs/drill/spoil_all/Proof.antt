@@ -1,0 +1,68 @@
+-- `spoil_all` ends, as each turn goes on to a higher place, and leaves the file as it was, as each turn does.
+use lib.ListN.{length}
+use mathlib.Core.Path.{_≡_, _∙_, refl}
+use Prim.Native.Nat.{_-_}
+use borrow.Author.Needs.{needs}
+use Rattle.drill.proofs.drill.spoil_all.Statement.{statement}
+use Rattle.drill.proofs.drill.spoil_all.Tie as tie
+
+abbrev Inv-loop : tie.InvT-loop
+Inv-loop flow file₀ p t₀ at₀ file t at = (file ≡ file₀) × (length file ≡ length file₀)
+
+abbrev μ-loop : tie.MeasureT-loop
+μ-loop flow file₀ p t₀ at₀ file t at = length file₀ - at
+
+loop-holds : tie.Need-loop-holds Inv-loop μ-loop
+loop-holds c = search needs
+
+div-progress : tie.Need-div-progress Inv-loop μ-loop
+div-progress c = search needs
+
+progress-requires : tie.Need-progress-requires Inv-loop μ-loop
+progress-requires c κs = search needs
+
+spoil-place-requires : tie.Need-spoil-place-requires Inv-loop μ-loop
+spoil-place-requires c κs = search needs
+
+sub-if1 : tie.Need-sub-if1 Inv-loop μ-loop
+sub-if1 c = search needs
+
+same-length : tie.Need-same-length Inv-loop μ-loop
+same-length c = search needs
+
+returns : tie.Need-returns Inv-loop μ-loop
+returns c = search needs
+
+add-at : tie.Need-add-at Inv-loop μ-loop
+add-at c = search needs
+
+loop-less : tie.Need-loop-less Inv-loop μ-loop
+loop-less c = search needs
+
+loop-again : tie.Need-loop-again Inv-loop μ-loop
+loop-again c = search needs
+
+same-length-2 : tie.Need-same-length-2 Inv-loop μ-loop
+same-length-2 c = search needs
+
+returns-2 : tie.Need-returns-2 Inv-loop μ-loop
+returns-2 c = search needs
+
+pub spoil-all-spec : {M : Type 1} → statement M
+spoil-all-spec =
+    tie.close
+    (tie.spec
+    Inv-loop
+    μ-loop
+    loop-holds
+    div-progress
+    progress-requires
+    spoil-place-requires
+    sub-if1
+    same-length
+    returns
+    add-at
+    loop-less
+    loop-again
+    same-length-2
+    returns-2)

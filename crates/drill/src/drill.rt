@@ -1,0 +1,135 @@
+// A good file spoiled: one byte at a time is made another, the file is judged, and the byte is put back.
+use judge::Verdict;
+use libc::STDERR_FILENO;
+use std::num::wrapping_add_u64;
+ghost use mathlib.Core.Path.{_≡_};
+ghost use Prim.Native.Nat.{_<_};
+ghost use lib.ListN.{length};
+
+// Every how many places the file is spoiled, and by every how many of the other bytes.
+pub struct Plan {
+    pub places: usize,
+    pub bytes: usize,
+}
+
+// How many files were spoiled, and how many of these were refused and passed.
+pub struct Tally {
+    pub spoiled: u64,
+    pub refused: u64,
+    pub passed: u64,
+}
+
+// Up to 2,048 bytes each place by all 255 other bytes; above that between 1,024 and 2,048 places,
+// evenly spread, by 8 other bytes each.
+pub fn plan_for(size: usize) -> Plan
+    ensures { λ r. ⌜ (0 < r .places) × (0 < r .bytes) ⌝ }
+{
+    if size <= 2048 {
+        return Plan {
+            places: 1,
+            bytes: 1,
+        };
+    }
+    Plan {
+        places: size / 1024,
+        bytes: 32,
+    }
+}
+
+fn accepts(flow: &[u8], file: &[u8]) -> bool {
+    match judge::judge(flow, file) {
+        Verdict::Accepted(_) => true,
+        Verdict::Refused {
+            number: _,
+            record: _,
+            field: _,
+        } => false,
+    }
+}
+
+// The byte that is d above b, past the highest counted on from 0.
+fn other(b: u8, d: usize) -> u8 {
+    ((b as usize + d % 256) % 256) as u8
+}
+
+// Counts a spoiled file, and says at which place and by which byte it passed, if it did.
+fn count(t: Tally, passed: bool, at: usize, b: u8) -> Tally {
+    let spoiled = wrapping_add_u64(t.spoiled, 1);
+    if passed {
+        stream::print_numbers(b"PASSED", at, b as usize, 0);
+        return Tally {
+            spoiled: spoiled,
+            refused: t.refused,
+            passed: wrapping_add_u64(t.passed, 1),
+        };
+    }
+    Tally {
+        spoiled: spoiled,
+        refused: wrapping_add_u64(t.refused, 1),
+        passed: t.passed,
+    }
+}
+
+// Spoils one place by one other byte, and puts the byte back.
+fn spoil(flow: &[u8], file: &mut [u8], at: usize, d: usize, t: Tally) -> Tally
+    requires { ⌜ at < length (now file) ⌝ }
+    ensures { λ _. ⌜ now (file .exit) ≡ now (file .entry) ⌝ }
+{
+    let kept = file[at];
+    let b = other(kept, d);
+    file[at] = b;
+    let passed = accepts(flow, file);
+    file[at] = kept;
+    count(t, passed, at, b)
+}
+
+// Spoils one place by the other bytes that the plan names.
+fn spoil_place(flow: &[u8], file: &mut [u8], at: usize, p: Plan, so_far: Tally) -> Tally
+    requires { ⌜ at < length (now file) ⌝ }
+    requires { ⌜ 0 < p .bytes ⌝ }
+    ensures { λ _. ⌜ now (file .exit) ≡ now (file .entry) ⌝ }
+{
+    let mut t = so_far;
+    let mut d = 1;
+    while d < 256 {
+        t = spoil(flow, file, at, d, t);
+        if 256 - d < p.bytes {
+            return t;
+        }
+        d += p.bytes;
+    }
+    t
+}
+
+// Says on standard error how far the drill is, at every 64th place.
+fn progress(turn: usize, at: usize, size: usize) {
+    if turn % 64 == 0 {
+        io::write_all(STDERR_FILENO, b"drill: place ");
+        io::print_decimal(STDERR_FILENO, at as u64);
+        io::write_all(STDERR_FILENO, b" of ");
+        io::print_decimal(STDERR_FILENO, size as u64);
+        io::write_all(STDERR_FILENO, b"\n");
+    }
+}
+
+// Spoils a good file at the places that the plan names.
+pub fn spoil_all(flow: &[u8], file: &mut [u8], p: Plan) -> Tally
+    requires { ⌜ (0 < p .places) × (0 < p .bytes) ⌝ }
+    ensures { λ _. ⌜ now (file .exit) ≡ now (file .entry) ⌝ }
+{
+    let mut t = Tally {
+        spoiled: 0,
+        refused: 0,
+        passed: 0,
+    };
+    let mut at = 0;
+    while at < file.len() {
+        progress(at / p.places, at, file.len());
+        t = spoil_place(flow, file, at, p, t);
+        if file.len() - at <= p.places {
+            return t;
+        }
+        at += p.places;
+    }
+    t
+}

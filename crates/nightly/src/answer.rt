@@ -1,0 +1,134 @@
+// The answer to a case: one line.
+use crate::header::Ask;
+use crate::room::fill;
+use crate::room::kept;
+use field::FieldAnswer;
+use field::FieldType;
+use field::Mark;
+use flow::StepAnswer;
+use libc::STDOUT_FILENO;
+use sheet::Transfer;
+use stream::print_numbers;
+use stream::print_transfer;
+use stream::print_value;
+use stream::print_whole;
+use value::Value;
+ghost use Prim.Native.Nat.{_≤_};
+
+// A truth is printed as T or F.
+fn print_truth(truth: bool) {
+    if truth {
+        print_value(b"truth", b"T");
+    } else {
+        print_value(b"truth", b"F");
+    }
+}
+
+// The value of one field of a file.
+fn value_line(flow: &[u8], record: usize, field: usize, file: &[u8]) {
+    match value::value_of(flow, file, record, field) {
+        Value::Refused {
+            number,
+            record,
+            field,
+        } => print_numbers(b"refused", number, record, field),
+        Value::Empty => print_value(b"empty", b""),
+        Value::Number(n) => print_whole(n),
+        Value::Truth(truth) => print_truth(truth),
+        Value::Text { from, to } => print_value(b"text", &file[from..to]),
+    }
+}
+
+// One field's bytes against a type and its mark. A text's value is the bytes themselves.
+fn field_line(form: FieldType, mark: Mark, fixed: &[u8], bytes: &[u8]) {
+    match field::judge(form, mark, fixed, bytes) {
+        FieldAnswer::Refused(number) => print_numbers(b"refused", number as usize, 0, 0),
+        FieldAnswer::Empty => print_value(b"empty", b""),
+        FieldAnswer::Number(n) => print_whole(n),
+        FieldAnswer::Truth(truth) => print_truth(truth),
+        FieldAnswer::Text => print_value(b"text", bytes),
+    }
+}
+
+// The checksum of bytes.
+fn sum_line(bytes: &[u8]) {
+    print_numbers(b"ok", 0, record::checksum(bytes) as usize, 0);
+}
+
+// The names of the kinds that may follow stand at the front of the bytes, three bytes each.
+fn print_follow(count: usize, complete: bool, follow: &[u8; 96])
+    requires { ⌜ count ≤ 32 ⌝ }
+{
+    let names = text::part(follow, 0, 3 * count);
+    if complete {
+        print_value(b"complete", names);
+    } else {
+        print_value(b"open", names);
+    }
+}
+
+// The step of the flow table through kinds.
+fn step_line(flow: &[u8], kinds: &[u8]) {
+    let mut follow = [0u8; 96];
+    match flow::step(flow, kinds, &mut follow) {
+        StepAnswer::Refused(number) => print_numbers(b"refused", number as usize, 0, 0),
+        StepAnswer::Stopped(place) => print_numbers(b"stopped", 0, place, 0),
+        StepAnswer::Through { count, complete } => print_follow(count, complete, &follow),
+    }
+}
+
+// A result in the room: the line of what was done, then the bytes and a line feed; or a refusal.
+fn transfer_line(done: Transfer, room: &[u8]) {
+    match done {
+        Transfer::Refused {
+            number,
+            record,
+            field,
+        } => print_transfer(b"refused", number, record, field, kept(room, 0)),
+        Transfer::Done { records, bytes } => {
+            print_transfer(b"ok", 0, records, bytes, kept(room, bytes));
+            io::write_all(STDOUT_FILENO, text::part(room, 0, bytes));
+            io::write_all(STDOUT_FILENO, b"\n");
+        }
+    }
+}
+
+// A file from a sheet.
+fn write_line(flow: &[u8], sheet: &[u8], room: &mut [u8]) {
+    fill(room);
+    let done = sheet::write(flow, sheet, room);
+    transfer_line(done, room);
+}
+
+// A sheet from a file.
+fn read_line(flow: &[u8], file: &[u8], room: &mut [u8]) {
+    fill(room);
+    let done = sheet::read(flow, file, room);
+    transfer_line(done, room);
+}
+
+// As many bytes as are asked, or as the room has.
+fn least(a: usize, b: usize) -> usize
+    ensures { λ r. ⌜ r ≤ b ⌝ }
+{
+    if a < b { a } else { b }
+}
+
+// Answers a case: what is asked, the flow that its header names, the fixed value and the body behind it, and room for a result.
+pub fn answer(ask: Ask, flow: &[u8], fixed: &[u8], body: &[u8], room: &mut [u8]) {
+    match ask {
+        Ask::Judge => stream::print_verdict(judge::judge(flow, body)),
+        Ask::Value { record, field } => value_line(flow, record, field, body),
+        Ask::Field { form, mark } => field_line(form, mark, fixed, body),
+        Ask::Sum => sum_line(body),
+        Ask::Step => step_line(flow, body),
+        Ask::Write { room: size } => {
+            let n = least(size, room.len());
+            write_line(flow, body, &mut room[0..n]);
+        }
+        Ask::Read { room: size } => {
+            let n = least(size, room.len());
+            read_line(flow, body, &mut room[0..n]);
+        }
+    }
+}

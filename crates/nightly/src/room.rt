@@ -1,0 +1,27 @@
+// The room that is lent for a result. It holds a pattern before, which the bytes past the result must keep.
+
+// The pattern's byte at a place.
+fn pattern(place: usize) -> u8 {
+    ((place % 256 * 167 + 13) % 256) as u8
+}
+
+// Fills the room with the pattern.
+pub fn fill(room: &mut [u8]) {
+    let mut i = 0;
+    while i < room.len() {
+        room[i] = pattern(i);
+        i += 1;
+    }
+}
+
+// 1 where the room holds the pattern from a place on, else 0.
+pub fn kept(room: &[u8], at: usize) -> usize {
+    let mut i = at;
+    while i < room.len() {
+        if room[i] != pattern(i) {
+            return 0;
+        }
+        i += 1;
+    }
+    1
+}

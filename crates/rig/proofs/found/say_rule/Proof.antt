@@ -1,0 +1,99 @@
+-- `say_rule` is safe: the rule for field `k` stands within the table.
+use mathlib.Core.List.{[]}
+use native.Mathlib.Omega.{arith}
+use borrow.Author.Needs.{needs}
+use Rattle.rig.proofs.found.say_rule.Statement.{statement}
+use Rattle.rig.proofs.found.say_rule.Tie as tie
+
+returns : tie.Need-returns
+returns c = search needs
+
+rules-of-requires : tie.Need-rules-of-requires
+rules-of-requires c κs = search needs
+
+returns-2 : tie.Need-returns-2
+returns-2 c = search needs
+
+mul-p : tie.Need-mul-p
+mul-p c = omega (arith, c .before .before .rules-of .ensures [] .within)
+
+add-p : tie.Need-add-p
+add-p c = omega (arith, c .before .before .before .rules-of .ensures [] .within)
+
+type-at-requires : tie.Need-type-at-requires
+type-at-requires c κs = omega (arith, c .before .before .before .rules-of .ensures [] .within)
+
+mark-at-requires : tie.Need-mark-at-requires
+mark-at-requires c κs = omega (arith, c .before .before .before .before .rules-of .ensures [] .within)
+
+fixed-at-requires : tie.Need-fixed-at-requires
+fixed-at-requires c κs = omega (arith, c .before .before .before .before .before .rules-of .ensures [] .within)
+
+slice-aggregate-put : tie.Need-slice-aggregate-put
+slice-aggregate-put c = search needs
+
+put-requires : tie.Need-put-requires
+put-requires c κs = search needs
+
+form-requires : tie.Need-form-requires
+form-requires c κs = search needs
+
+enum-told : tie.Need-enum-told
+enum-told c = search needs
+
+enum-told-2 : tie.Need-enum-told-2
+enum-told-2 c = search needs
+
+slice-aggregate-put-2 : tie.Need-slice-aggregate-put-2
+slice-aggregate-put-2 c = search needs
+
+put-requires-2 : tie.Need-put-requires-2
+put-requires-2 c κs = search needs
+
+enum-told-3 : tie.Need-enum-told-3
+enum-told-3 c = search needs
+
+slice-aggregate-put-3 : tie.Need-slice-aggregate-put-3
+slice-aggregate-put-3 c = search needs
+
+put-requires-3 : tie.Need-put-requires-3
+put-requires-3 c κs = search needs
+
+put-requires-4 : tie.Need-put-requires-4
+put-requires-4 c κs = search needs
+
+returns-3 : tie.Need-returns-3
+returns-3 c = search needs
+
+returns-4 : tie.Need-returns-4
+returns-4 c = search needs
+
+returns-5 : tie.Need-returns-5
+returns-5 c = search needs
+
+pub say-rule-spec : {M : Type 1} → statement M
+say-rule-spec =
+    tie.close
+    (tie.spec
+    returns
+    rules-of-requires
+    returns-2
+    mul-p
+    add-p
+    type-at-requires
+    mark-at-requires
+    fixed-at-requires
+    slice-aggregate-put
+    put-requires
+    form-requires
+    enum-told
+    enum-told-2
+    slice-aggregate-put-2
+    put-requires-2
+    enum-told-3
+    slice-aggregate-put-3
+    put-requires-3
+    put-requires-4
+    returns-3
+    returns-4
+    returns-5)

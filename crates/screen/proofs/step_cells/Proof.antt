@@ -1,0 +1,43 @@
+-- `step_cells` is right: each case of the answer is turned to its four numbers.
+use mathlib.Core.Path.{sym, ap}
+use Rattle.screen.specs.Numbers.{stepCells}
+use borrow.Author.Needs.{needs}
+use Rattle.screen.proofs.step_cells.Statement.{statement}
+use Rattle.screen.proofs.step_cells.Tie as tie
+
+enum-known-a : tie.Need-enum-known-a
+enum-known-a c = search needs
+
+cast-t7 : tie.Need-cast-t7
+cast-t7 c = search needs
+
+enum-known-a-2 : tie.Need-enum-known-a-2
+enum-known-a-2 c = search needs
+
+enum-known-a-3 : tie.Need-enum-known-a-3
+enum-known-a-3 c = search needs
+
+flag-requires : tie.Need-flag-requires
+flag-requires c κs = search needs
+
+returns : tie.Need-returns
+returns c = sym (ap stepCells (c .before .a .given .1))
+
+returns-2 : tie.Need-returns-2
+returns-2 c = sym (ap stepCells (c .before .a2 .given .1))
+
+returns-3 : tie.Need-returns-3
+returns-3 c = rw (c .flag .ensures) (sym (ap stepCells (c .before .before .a3 .given .1)))
+
+pub step-cells-spec : {M : Type 1} → statement M
+step-cells-spec =
+    tie.close
+    (tie.spec
+    enum-known-a
+    cast-t7
+    enum-known-a-2
+    enum-known-a-3
+    flag-requires
+    returns
+    returns-2
+    returns-3)

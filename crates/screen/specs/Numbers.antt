@@ -1,0 +1,120 @@
+-- Document 01's answers as four numbers in a lent array, for callers in C. Cell 0 is the refusal's number, 0 where nothing is refused;
+-- of a refusal cell 1 is the record and cell 2 the field. A cell that says nothing is 0. Assumes nothing.
+use Prim.Native.Nat.{ℕ}
+use mathlib.Core.Path.{_≡_}
+use mathlib.Core.Bool.{Bool, cond}
+use mathlib.Core.List.{List, [], _∷_}
+use lib.Dec.{eqb, leb}
+use lib.IntN.{ℤ, pos, negsuc, natAbs}
+use lib.ListN.{length}
+use Rattle.text.specs.Rules.{must}
+use Rattle.field.specs.Judge as fields
+use Rattle.field.specs.declared.FieldType.{FieldType}
+use Rattle.field.specs.declared.FieldType.the-variants as types
+use Rattle.flow.specs.Step.{StepRight}
+use Rattle.flow.specs.declared.StepAnswer.{StepAnswer}
+use Rattle.flow.specs.declared.StepAnswer.the-variants as steps
+use Rattle.judge.specs.File as files
+use Rattle.value.specs.Value as values
+use Rattle.sheet.specs.Sheets.{made, sheetOf}
+use Rattle.sheet.specs.Write as writing
+use Rattle.sheet.specs.Read as reading
+
+-- a refusal: its number, record and field
+abbrev pub refusalCells : ℕ → ℕ → ℕ → List ℕ
+refusalCells number r f = number ∷ r ∷ f ∷ 0 ∷ []
+
+-- judging a file: cell 1 is the number of records
+abbrev pub judgeCells : files.Reply → List ℕ
+judgeCells (files.accepted n) = 0 ∷ n ∷ 0 ∷ 0 ∷ []
+judgeCells (files.refused number r f) = refusalCells number r f
+
+-- writing a file and reading to a sheet: cell 1 is the number of records, cell 2 the number of bytes written
+abbrev pub transferCells : writing.Reply → List ℕ
+transferCells (writing.done records bytes) = 0 ∷ records ∷ bytes ∷ 0 ∷ []
+transferCells (writing.refused number r f) = refusalCells number r f
+
+-- a file written from a sheet: the cells, and every byte that was lent
+pub record WroteCells (name sheet cells old new : List ℕ) : Type 0 where
+  pub says : cells ≡ transferCells (writing.paper (writing.written name sheet (length old)))
+  pub leaves : new ≡ writing.output (writing.written name sheet (length old)) (made sheet) old
+
+-- a file read to a sheet: the cells, and every byte that was lent
+pub record ReadCells (name file cells old new : List ℕ) : Type 0 where
+  pub says : cells ≡ transferCells (writing.paper (reading.readTo name file (length old)))
+  pub leaves : new ≡ writing.output (reading.readTo name file (length old)) (sheetOf file) old
+
+-- yes is 1, no is 0
+abbrev pub flagOf : Bool → ℕ
+flagOf b = cond b 1 0
+
+-- 1 below zero, else 0
+abbrev pub sign : ℤ → ℕ
+sign (pos n) = 0
+sign (negsuc n) = 1
+
+-- a value: cell 1 says what it is. 1 an empty field; 2 a number, its size in cell 2 and its sign in cell 3; 3 a yes (1) or no (0) in
+-- cell 2; 4 a text, where it starts in cell 2 and where it ends in cell 3
+abbrev pub emptyCells : List ℕ
+emptyCells = 0 ∷ 1 ∷ 0 ∷ 0 ∷ []
+
+abbrev pub numberCells : ℤ → List ℕ
+numberCells z = 0 ∷ 2 ∷ natAbs z ∷ sign z ∷ []
+
+abbrev pub truthCells : Bool → List ℕ
+truthCells b = 0 ∷ 3 ∷ flagOf b ∷ 0 ∷ []
+
+abbrev pub textCells : ℕ → ℕ → List ℕ
+textCells from to = 0 ∷ 4 ∷ from ∷ to ∷ []
+
+-- the value of one field of a file: a text stands in the file
+abbrev pub valueCells : values.Reply → List ℕ
+valueCells (values.refused number r f) = refusalCells number r f
+valueCells values.empty = emptyCells
+valueCells (values.number z) = numberCells z
+valueCells (values.truth b) = truthCells b
+valueCells (values.text from to bytes) = textCells from to
+
+-- judging one field's bytes: a text is all of them
+abbrev pub fieldCells : fields.Reply → List ℕ
+fieldCells (fields.refused number r f) = refusalCells number r f
+fieldCells fields.empty = emptyCells
+fieldCells (fields.number z) = numberCells z
+fieldCells (fields.truth b) = truthCells b
+fieldCells (fields.text s) = textCells 0 (length s)
+
+-- the codes of types, in the order of document 01's table, with the widths that some take
+unfoldable pub typeCoded : ℕ → ℕ → ℕ → FieldType
+typeCoded code p q =
+    cond (eqb code 0) (types.Text p)
+    (cond (eqb code 1) (types.Int p)
+    (cond (eqb code 2) (types.Dec p q)
+    (cond (eqb code 3) types.Date
+    (cond (eqb code 4) types.Datetime
+    (cond (eqb code 5) types.Bol
+    (cond (eqb code 6) types.Period
+    types.Null))))))
+
+-- the codes of marks: 0 is none, 1 opt, 2 the fixed bytes
+unfoldable pub markCoded : ℕ → List ℕ → fields.Marked
+markCoded code bytes = cond (eqb code 1) fields.opt (cond (eqb code 2) (fields.fixed bytes) fields.bare)
+
+-- judging one field's bytes by codes: 18 for a code that is none
+unfoldable pub fieldAsked : ℕ → ℕ → ℕ → ℕ → List ℕ → List ℕ → fields.Reply
+fieldAsked type p q mark bytes s =
+    must (leb type 7) (fields.refused 18 0 0)
+    (must (leb mark 2) (fields.refused 18 0 0)
+    (fields.fieldJudged (typeCoded type p q) (markCoded mark bytes) s))
+
+-- the step: cell 1 is the place where the list stopped, 0 where it went through; then cell 2 is how many kinds may follow, and cell 3
+-- says if the list is complete
+abbrev pub stepCells : StepAnswer → List ℕ
+stepCells (steps.Refused number) = refusalCells number 0 0
+stepCells (steps.Stopped place) = 0 ∷ place ∷ 0 ∷ 0 ∷ []
+stepCells (steps.Through count complete) = 0 ∷ 0 ∷ count ∷ flagOf complete ∷ []
+
+-- the cells are those of the step's right answer, and the lent names of kinds are right
+pub record Stepped (name kinds cells old new : List ℕ) : Type 0 where
+  pub step : StepAnswer
+  pub right : StepRight name kinds step old new
+  pub says : cells ≡ stepCells step

@@ -1,0 +1,218 @@
+// The seven public parts under C names. An answer is four numbers in a lent array: include/screen.h says what each cell holds.
+use field::FieldAnswer;
+use field::FieldType;
+use field::Mark;
+use flow::StepAnswer;
+use judge::Verdict;
+use sheet::Transfer;
+use value::Value;
+ghost use mathlib.Core.Path.{_≡_};
+ghost use mathlib.Core.List.{List};
+ghost use Prim.Native.Nat.{ℕ};
+ghost use lib.ListN.{length};
+ghost use Rattle.record.specs.Checksum.{checksumOf};
+ghost use Rattle.field.specs.Judge.{marked, paper as fieldPaper};
+ghost use Rattle.judge.specs.File.{judged, paper as judgePaper};
+ghost use Rattle.sheet.specs.Write.{paper as transferPaper};
+ghost use Rattle.value.specs.Value.{valued, paper as valuePaper};
+ghost use Rattle.screen.specs.Numbers.{refusalCells, judgeCells, transferCells, WroteCells, ReadCells, flagOf, numberCells, valueCells, fieldCells, typeCoded, markCoded, fieldAsked, stepCells, Stepped};
+
+// A refusal's number, record and field.
+fn refusal_cells(number: usize, r: usize, f: usize) -> [u64; 4]
+    ensures { λ c. ⌜ c ≡ refusalCells number r f ⌝ }
+{
+    [number as u64, r as u64, f as u64, 0]
+}
+
+// What is said of a file.
+fn judge_cells(v: Verdict) -> [u64; 4]
+    ensures { λ r. ⌜ r ≡ judgeCells (judgePaper v) ⌝ }
+{
+    match v {
+        Verdict::Accepted(records) => [0, records as u64, 0, 0],
+        Verdict::Refused {
+            number,
+            record,
+            field,
+        } => refusal_cells(number, record, field),
+    }
+}
+
+// Judges a file for a flow.
+#[no_mangle]
+pub extern "C" fn screen_judge(flow: &[u8], file: &[u8], answer: &mut [u64; 4])
+    ensures { λ _. ⌜ now (answer .exit) ≡ judgeCells (judged (now (flow .entry)) (now (file .entry))) ⌝ }
+{
+    *answer = judge_cells(judge::judge(flow, file));
+}
+
+// What is said of a file written or of a sheet read.
+fn transfer_cells(t: Transfer) -> [u64; 4]
+    ensures { λ r. ⌜ r ≡ transferCells (transferPaper t) ⌝ }
+{
+    match t {
+        Transfer::Done { records, bytes } => [0, records as u64, bytes as u64, 0],
+        Transfer::Refused {
+            number,
+            record,
+            field,
+        } => refusal_cells(number, record, field),
+    }
+}
+
+// Writes the file of a sheet for a flow into the lent bytes.
+#[no_mangle]
+pub extern "C" fn screen_write(flow: &[u8], sheet: &[u8], out: &mut [u8], answer: &mut [u64; 4])
+    ensures { λ _. ⌜ WroteCells (now (flow .entry)) (now (sheet .entry)) (now (answer .exit)) (now (out .entry)) (now (out .exit)) ⌝ }
+{
+    *answer = transfer_cells(sheet::write(flow, sheet, out));
+}
+
+// Reads a file for a flow to a sheet in the lent bytes.
+#[no_mangle]
+pub extern "C" fn screen_read(flow: &[u8], file: &[u8], out: &mut [u8], answer: &mut [u64; 4])
+    ensures { λ _. ⌜ ReadCells (now (flow .entry)) (now (file .entry)) (now (answer .exit)) (now (out .entry)) (now (out .exit)) ⌝ }
+{
+    *answer = transfer_cells(sheet::read(flow, file, out));
+}
+
+// Yes is 1, no is 0.
+fn flag(b: bool) -> u64
+    ensures { λ r. ⌜ r ≡ flagOf b ⌝ }
+{
+    if b { 1 } else { 0 }
+}
+
+// A number with its sign. One below zero is turned from -1 on, so that the lowest number has a size too.
+fn number_cells(z: i64) -> [u64; 4]
+    ensures { λ r. ⌜ r ≡ numberCells z ⌝ }
+{
+    if 0 <= z {
+        return [0, 2, z as u64, 0];
+    }
+    [0, 2, (-1 - z) as u64 + 1, 1]
+}
+
+// The value of a field of a file.
+fn value_cells(v: Value) -> [u64; 4]
+    ensures { λ r. ⌜ ((f : List ℕ) → r ≡ valueCells (valuePaper f v)) ⌝ }
+{
+    match v {
+        Value::Refused {
+            number,
+            record,
+            field,
+        } => refusal_cells(number, record, field),
+        Value::Empty => [0, 1, 0, 0],
+        Value::Number(z) => number_cells(z),
+        Value::Truth(b) => [0, 3, flag(b), 0],
+        Value::Text { from, to } => [0, 4, from as u64, to as u64],
+    }
+}
+
+// Gives the value of a field of a file for a flow.
+#[no_mangle]
+pub extern "C" fn screen_value(flow: &[u8], file: &[u8], n: usize, k: usize, answer: &mut [u64; 4])
+    ensures { λ _. ⌜ now (answer .exit) ≡ valueCells (valued (now (flow .entry)) (now (file .entry)) n k) ⌝ }
+{
+    *answer = value_cells(value::value_of(flow, file, n, k));
+}
+
+// The type of a code, with its widths.
+fn type_coded(code: u32, p: usize, q: usize) -> FieldType
+    ensures { λ r. ⌜ r ≡ typeCoded code p q ⌝ }
+{
+    match code {
+        0 => FieldType::Text(p),
+        1 => FieldType::Int(p),
+        2 => FieldType::Dec(p, q),
+        3 => FieldType::Date,
+        4 => FieldType::Datetime,
+        5 => FieldType::Bol,
+        6 => FieldType::Period,
+        _ => FieldType::Null,
+    }
+}
+
+// The mark of a code; the fixed bytes are lent beside it.
+fn mark_coded(code: u32) -> Mark
+    ensures { λ r. ⌜ ((bytes : List ℕ) → marked r bytes ≡ markCoded code bytes) ⌝ }
+{
+    match code {
+        1 => Mark::Opt,
+        2 => Mark::Fixed,
+        _ => Mark::Bare,
+    }
+}
+
+// What is said of one field's bytes, of which there are `len`.
+fn field_cells(a: FieldAnswer, len: usize) -> [u64; 4]
+    ensures { λ r. ⌜ ((s : List ℕ) → len ≡ length s → r ≡ fieldCells (fieldPaper s a)) ⌝ }
+{
+    match a {
+        FieldAnswer::Refused(number) => [number as u64, 0, 0, 0],
+        FieldAnswer::Empty => [0, 1, 0, 0],
+        FieldAnswer::Number(z) => number_cells(z),
+        FieldAnswer::Truth(b) => [0, 3, flag(b), 0],
+        FieldAnswer::Text => [0, 4, 0, len as u64],
+    }
+}
+
+// Judges one field's bytes against a type and a mark, given as codes. Any number gets an answer.
+#[no_mangle]
+pub extern "C" fn screen_field(
+    kind: u32,
+    p: usize,
+    q: usize,
+    mark: u32,
+    fixed: &[u8],
+    bytes: &[u8],
+    answer: &mut [u64; 4],
+)
+    ensures { λ _. ⌜ now (answer .exit) ≡ fieldCells (fieldAsked kind p q mark (now (fixed .entry)) (now (bytes .entry))) ⌝ }
+{
+    if 7 < kind {
+        *answer = [18, 0, 0, 0];
+        return;
+    }
+    if 2 < mark {
+        *answer = [18, 0, 0, 0];
+        return;
+    }
+    *answer = field_cells(
+        field::judge(type_coded(kind, p, q), mark_coded(mark), fixed, bytes),
+        bytes.len(),
+    );
+}
+
+// Takes the checksum of bytes.
+#[no_mangle]
+pub extern "C" fn screen_checksum(bytes: &[u8]) -> u32
+    ensures { λ r. ⌜ r ≡ checksumOf (now (bytes .entry)) ⌝ }
+{
+    record::checksum(bytes)
+}
+
+// What the step answers.
+fn step_cells(a: StepAnswer) -> [u64; 4]
+    ensures { λ r. ⌜ r ≡ stepCells a ⌝ }
+{
+    match a {
+        StepAnswer::Refused(number) => [number as u64, 0, 0, 0],
+        StepAnswer::Stopped(place) => [0, place as u64, 0, 0],
+        StepAnswer::Through { count, complete } => [0, 0, count as u64, flag(complete)],
+    }
+}
+
+// Steps the flow table through kinds; the names of those that may follow go to the front of the lent bytes.
+#[no_mangle]
+pub extern "C" fn screen_step(
+    flow: &[u8],
+    kinds: &[u8],
+    follow: &mut [u8; 96],
+    answer: &mut [u64; 4],
+)
+    ensures { λ _. ⌜ Stepped (now (flow .entry)) (now (kinds .entry)) (now (answer .exit)) (now (follow .entry)) (now (follow .exit)) ⌝ }
+{
+    *answer = step_cells(flow::step(flow, kinds, follow));
+}

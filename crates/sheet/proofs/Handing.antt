@@ -1,0 +1,103 @@
+-- What the writer and the reader hand over, answer by answer. Assumes nothing.
+use Prim.Native.Nat.{ℕ, _+_, _≤_, _<_}
+use mathlib.Core.Path.{_≡_, refl, sym, ap, _∙_}
+use mathlib.Core.List.{List, [], _∷_, _++_, append-assoc}
+use native.Mathlib.Nat.{zero-add}
+use native.Mathlib.Omega.{arith}
+use lib.ListN.{length, take, drop}
+use lib.Seq.{length-take-le, take-length}
+use borrow.Author.Tests.{le-leb, lt-leb}
+use Rattle.record.specs.Records.{records, joined}
+use Rattle.record.specs.Checksum.{checksumOf}
+use Rattle.judge.specs.File.{bar, verdict, judged}
+use Rattle.judge.specs.File as judging
+use Rattle.judge.specs.declared.Verdict.{Verdict}
+use Rattle.judge.specs.declared.Verdict.the-variants as verdicts
+use Rattle.judge.proofs.Demand2.{one-reply}
+use Rattle.sheet.specs.Sheets.{tab, turned, footer, made, butLast, sheetOf}
+use Rattle.sheet.specs.Write.{asJudged, fitted, written, paper, Wrote}
+use Rattle.sheet.specs.Read.{readTo, Read}
+use Rattle.sheet.specs.Code.{Totals, Taken, put}
+use Rattle.sheet.specs.declared.Transfer.the-variants.{Done, Refused}
+use Rattle.sheet.proofs.Turning.{turned-length}
+use Rattle.sheet.proofs.Putting.{grown}
+use Rattle.sheet.proofs.MadeFiles.{made-length}
+
+-- the room and the result
+module _ (room : ℕ) (result : List ℕ) (n : ℕ) where
+  pub fits-not : room < length result → fitted room result n ≡ Refused 17 0 0
+  fits-not h = rw (lt-leb (length result) room h)
+
+  pub fits : length result ≤ room → fitted room result n ≡ Done n (length result)
+  fits h = rw (le-leb (length result) room h)
+
+-- the writer
+module _ (name sheet old : List ℕ) where
+  pub wrote-refused : (number r f : ℕ) → written name sheet (length old) ≡ Refused number r f → Wrote name sheet (Refused number r f) old old
+  wrote-refused number r f e = record { says = ap paper (sym e); leaves = refl }
+
+  module _ (n sum b : ℕ) (t : Taken name sheet n sum) (size : b ≡ length (made sheet)) where
+    pub wrote-no-room : length old < b → Wrote name sheet (Refused 17 0 0) old old
+    wrote-no-room h = wrote-refused 17 0 0 (t .says (length old) ∙ fits-not (length old) (made sheet) n (rw size at h))
+
+    pub wrote-done : (new : List ℕ) → b ≤ length old → new ≡ made sheet ++ drop b old → Wrote name sheet (Done n b) old new
+    wrote-done new h e =
+        record { says = ap (λ (k : ℕ). paper (Done n k)) size ∙ ap paper (sym (t .says (length old) ∙ fits (length old) (made sheet) n (rw size at h))); leaves = e }
+
+-- the turned sheet at the front, and the footer behind it
+module _ (sheet old : List ℕ) (n sum : ℕ) (t : Totals sheet n sum) where
+  abbrev front : List ℕ
+  front = turned tab bar sheet
+
+  pub made-size : length sheet + (length (footer n sum) + 1) ≡ length (made sheet)
+  made-size =
+      let same : length (footer n sum) ≡ length (footer (length (records sheet) + 1) (checksumOf front)) =
+      λ i. length (footer (t .count i) (t .total i)) in
+      omega (arith, made-length sheet)
+
+  pub made-put : (first new : List ℕ) → length sheet ≤ length old → first ≡ turned tab bar (take (length sheet) sheet) ++ drop (length sheet) old
+      → new ≡ put first (length sheet) (footer n sum ++ 0x0A ∷ []) → new ≡ made sheet ++ drop (length (made sheet)) old
+  unfolding made
+  made-put first new h e f =
+      let foot = footer n sum ++ 0x0A ∷ [] in
+      let start : length sheet ≡ 0 + length front = omega (arith, turned-length tab bar sheet) in
+      let is : first ≡ put old 0 front =
+      e ∙ ap (λ (x : List ℕ). turned tab bar x ++ drop (length sheet) old) (take-length sheet) ∙ ap (λ (k : ℕ). front ++ drop k old) start in
+      let whole : front ++ foot ≡ made sheet =
+      (λ i. front ++ (footer (t .count i) (t .total i) ++ 0x0A ∷ []))
+      ∙ sym (append-assoc front (footer (length (records sheet) + 1) (checksumOf front)) (0x0A ∷ [])) in
+      f ∙ grown old first 0 front (omega arith) is (length sheet) foot start
+      ∙ ap (λ (x : List ℕ). x ++ drop (0 + length x) old) whole ∙ rw zero-add
+
+-- the reader
+module _ (name f old : List ℕ) where
+  read-is : (v : Verdict) → judging.paper v ≡ judged name f → paper (asJudged v (fitted (length old) (sheetOf f))) ≡ paper (readTo name f (length old))
+  unfolding readTo judged
+  read-is v e = ap (λ (w : Verdict). paper (asJudged w (fitted (length old) (sheetOf f)))) (one-reply v (verdict name f) e)
+
+  pub read-refused : (number r g : ℕ) → judging.refused number r g ≡ judged name f → Read name f (Refused number r g) old old
+  read-refused number r g e = record { says = read-is (verdicts.Refused number r g) e; leaves = refl }
+
+  -- the last record starts at b
+  module _ (n b : ℕ) (accepts : judging.accepted n ≡ judged name f) (within : b ≤ length f) (front : joined (butLast (records f)) ≡ take b f) where
+    sheet-is : sheetOf f ≡ turned bar tab (take b f)
+    unfolding sheetOf
+    sheet-is = ap (turned bar tab) front
+
+    size : length (sheetOf f) ≡ b
+    size = ap length sheet-is ∙ turned-length bar tab (take b f) ∙ length-take-le b f within
+
+    pub read-no-room : length old < b → Read name f (Refused 17 0 0) old old
+    read-no-room h =
+        let over : length old < length (sheetOf f) = omega (arith, size) in
+        record { says = ap paper (sym (fits-not (length old) (sheetOf f) n over)) ∙ read-is (verdicts.Accepted n) accepts; leaves = refl }
+
+    pub read-done : (new : List ℕ) → b ≤ length old → new ≡ turned bar tab (take b f) ++ drop b old → Read name f (Done n b) old new
+    read-done new h e =
+        let room : length (sheetOf f) ≤ length old = omega (arith, size) in
+        record {
+          says =
+              ap (λ (k : ℕ). paper (Done n k)) (sym size) ∙ ap paper (sym (fits (length old) (sheetOf f) n room))
+              ∙ read-is (verdicts.Accepted n) accepts;
+          leaves = e ∙ ap (λ (x : List ℕ). x ++ drop b old) (sym sheet-is);
+        }

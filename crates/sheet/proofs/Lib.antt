@@ -1,0 +1,15 @@
+pub mod Turning
+pub mod Holding
+pub mod Lines
+pub mod Feet
+pub mod MadeFiles
+pub mod Looking
+pub mod Putting
+pub mod Numerals
+pub mod FootPut
+pub mod Starts
+pub mod Verdicts
+pub mod Handing
+pub mod TabFree
+pub mod AcceptedFiles
+pub mod RoundTrip

@@ -1,0 +1,258 @@
+-- Sheets there and back: the second half of demand 2, and that there is one answer. Assumes nothing.
+use Prim.Native.Nat.{ℕ, suc, _+_, _-_, _≤_, _<_}
+use mathlib.Core.Path.{_≡_, refl, sym, ap, _∙_}
+use mathlib.Core.Bool.{Bool, true, false, not, or-true}
+use mathlib.Core.Logic.{_↔_}
+use mathlib.Core.List.{List, [], _∷_, _++_, map, append-assoc}
+use native.Mathlib.Omega.{arith}
+use lib.Dec.{eqb, leb}
+use lib.ListN.{length, getD, take, drop, length-append}
+use lib.Seq.{take-at, getD-append-add}
+use borrow.Author.Tests.{leb-true, le-leb, ne-eqb, not-true}
+use Rattle.text.specs.Rules.{must}
+use Rattle.record.specs.Records.{records, barred, joined, holds, someHolds}
+use Rattle.record.specs.Checksum.{checksum, checksumOf}
+use Rattle.record.proofs.Bars.{records-barred-length}
+use Rattle.record.proofs.Cutting.{records-joined, records-free, records-le, joined-append, checksumOf-joined}
+use Rattle.layout.specs.Layout.{Layout}
+use Rattle.flow.specs.Publication.{layoutFor}
+use Rattle.flow.specs.Flows.{held, flowNumber, flowNamed}
+use Rattle.judge.specs.File.{bar, endsInFeed, verdict, judgedBy}
+use Rattle.judge.specs.declared.Verdict.{Verdict}
+use Rattle.judge.specs.declared.Verdict.the-variants as verdicts
+use Rattle.sheet.specs.Sheets.{tab, turned, footer, made, butLast, sheetOf, withFeed}
+use Rattle.sheet.specs.Write.{linesEnded, asJudged, fitted, written, paper, output, Wrote}
+use Rattle.sheet.specs.Read.{readTo, Read}
+use Rattle.sheet.specs.declared.Transfer.{Transfer}
+use Rattle.sheet.specs.declared.Transfer.the-variants.{Done, Refused}
+use Rattle.sheet.proofs.Turning.{turned-bars, turned-back, turned-gone, turned-joined}
+use Rattle.sheet.proofs.Holding.{none-joined}
+use Rattle.sheet.proofs.Feet.{properFooter, foot-length}
+use Rattle.sheet.proofs.MadeFiles.{made-length, records-made, sheet-turned, ends-so}
+use Rattle.sheet.proofs.Starts.{butLast-snoc}
+use Rattle.sheet.proofs.Handing.{fits}
+use Rattle.sheet.proofs.AcceptedFiles.{Passes, passes, accepted, must-accepted, none-front, records-split, lines-no-tab, feed-joined, feed-long, feed-passes}
+
+-- the writer takes a sheet: the sheet's own rules hold, the judge accepts the made file, and there is room
+pub record Takes (name sheet : List ℕ) (room n b : ℕ) : Type 0 where
+  pub within : length sheet ≤ 1048000
+  pub noBar : holds bar sheet ≡ false
+  pub ends : linesEnded sheet ≡ true
+  pub accepts : verdict name (made sheet) ≡ verdicts.Accepted n
+  pub fits : length (made sheet) ≤ room
+  pub bytes : b ≡ length (made sheet)
+
+no-done : {x r f n b : ℕ} → Refused x r f ≡ Done n b → ⊥
+no-done e = let z : _≡_ {A = ℕ} 0 1 = cc in omega arith
+
+must-done : (t : Bool) (x r f n b : ℕ) (a : Transfer) → must t (Refused x r f) a ≡ Done n b → (t ≡ true) × (a ≡ Done n b)
+must-done true x r f n b a e = (refl, e)
+must-done false x r f n b a e = absurd (no-done e)
+
+judged-done : (v : Verdict) (after : ℕ → Transfer) (n b : ℕ) → asJudged v after ≡ Done n b → (m : ℕ) × (v ≡ verdicts.Accepted m) × (after m ≡ Done n b)
+judged-done (verdicts.Accepted m) after n b e = (m, refl, e)
+judged-done (verdicts.Refused x r f) after n b e = absurd (no-done e)
+
+same-records : {m n b c : ℕ} → Done m c ≡ Done n b → m ≡ n
+same-records e = cc
+
+same-bytes : {m n b c : ℕ} → Done m c ≡ Done n b → b ≡ c
+same-bytes e = cc
+
+module _ (name sheet : List ℕ) (room n b : ℕ) where
+  takes : written name sheet room ≡ Done n b → Takes name sheet room n b
+  unfolding written
+  takes e =
+      let after = asJudged (verdict name (made sheet)) (fitted room (made sheet)) in
+      let lined = must (linesEnded sheet) (Refused 15 (length (records sheet)) 0) after in
+      let p = must-done (held name) 1 0 0 n b _ e in
+      let q = must-done (leb (length sheet) 1048000) 2 0 0 n b _ (p .1) in
+      let r = must-done (not (holds bar sheet)) 16 _ 0 n b lined (q .1) in
+      let s = must-done (linesEnded sheet) 15 (length (records sheet)) 0 n b after (r .1) in
+      let v = judged-done (verdict name (made sheet)) (fitted room (made sheet)) n b (s .1) in
+      let t = must-done (leb (length (made sheet)) room) 17 0 0 n b (Done (v .0) (length (made sheet))) (v .2) in
+      record {
+        within = leb-true _ _ (q .0);
+        noBar = not-true _ (r .0);
+        ends = s .0;
+        accepts = v .1 ∙ ap verdicts.Accepted (same-records (t .1));
+        fits = leb-true _ _ (t .0);
+        bytes = same-bytes (t .1);
+      }
+
+  is-held : verdict name (made sheet) ≡ verdicts.Accepted n → held name ≡ true
+  unfolding verdict
+  is-held e = must-accepted (held name) 1 0 0 n (judgedBy (layoutFor (flowNamed name)) (made sheet)) e .0
+
+  taken : Takes name sheet room n b → written name sheet room ≡ Done n b
+  unfolding written
+  taken t =
+      rw (is-held (t .accepts), le-leb (length sheet) 1048000 (t .within), t .noBar, t .ends, t .accepts, le-leb (length (made sheet)) room (t .fits))
+      (ap (Done n) (sym (t .bytes)))
+
+  -- the writer accepts a sheet exactly when the judge accepts the made file and the sheet's own rules hold, given room
+  pub writer-takes : (written name sheet room ≡ Done n b) ↔ Takes name sheet room n b
+  writer-takes = (takes, taken)
+
+-- a sheet without bars whose lines are ended is the sheet of its made file
+pub sheet-of-made : (sheet : List ℕ) → holds bar sheet ≡ false → linesEnded sheet ≡ true → sheetOf (made sheet) ≡ sheet
+unfolding sheetOf
+sheet-of-made sheet free ends =
+    let bars = map (barred tab) (records sheet) in
+    ap (λ (rs : List (List ℕ)). turned bar tab (joined (butLast rs))) (records-made sheet ends)
+    ∙ ap (λ (rs : List (List ℕ)). turned bar tab (joined rs)) (butLast-snoc bars _)
+    ∙ ap (turned bar tab) (sym (sheet-turned sheet ends)) ∙ turned-back tab bar sheet free
+
+-- given room, a sheet that the writer takes is read back as the same sheet
+pub sheet-back : (name sheet : List ℕ) (room n b : ℕ) → written name sheet room ≡ Done n b
+    → (sheetOf (made sheet) ≡ sheet) × ((back : ℕ) → length sheet ≤ back → readTo name (made sheet) back ≡ Done n (length sheet))
+unfolding readTo
+sheet-back name sheet room n b e =
+    let t = takes name sheet room n b e in
+    let same = sheet-of-made sheet (t .noBar) (t .ends) in
+    (same, λ back h. rw (t .accepts, same) (fits back sheet n h))
+
+-- lines joined are ended
+ends-before : (r s : List ℕ) → linesEnded s ≡ true → linesEnded (r ++ 0x0A ∷ s) ≡ true
+ends-before r [] e = rw (ends-so r) (or-true (eqb (length (r ++ 0x0A ∷ [])) 0))
+ends-before r (b ∷ s) e =
+    let here : suc (length s) - 1 ≡ length s = omega arith in
+    let last : eqb (getD (b ∷ s) (length s) 0) 0x0A ≡ true = rw (ne-eqb (suc (length s)) 0 (λ q. omega arith), here) at e in
+    let there : length (r ++ 0x0A ∷ b ∷ s) - 1 ≡ length r + suc (length s) = omega (arith, length-append r (0x0A ∷ b ∷ s)) in
+    let feed : endsInFeed (r ++ 0x0A ∷ b ∷ s) ≡ true = rw (there, getD-append-add r (0x0A ∷ b ∷ s) (suc (length s)) 0) last in
+    rw feed (or-true (eqb (length (r ++ 0x0A ∷ b ∷ s)) 0))
+
+joined-ends : (rs : List (List ℕ)) → linesEnded (joined rs) ≡ true
+unfolding joined
+joined-ends [] = refl
+joined-ends (r ∷ rs) = ends-before r (joined rs) (joined-ends rs)
+
+module _ (name f : List ℕ) (n : ℕ) (accepts : verdict name f ≡ verdicts.Accepted n) (short : length f ≤ 1048000) where
+  abbrev l : Layout
+  l = layoutFor (flowNamed name)
+
+  abbrev lines : List (List ℕ)
+  lines = butLast (records f)
+
+  tests : (held name ≡ true) × (judgedBy l f ≡ verdicts.Accepted n)
+  unfolding verdict
+  tests = must-accepted (held name) 1 0 0 n (judgedBy l f) accepts
+
+  right : Passes l f n
+  right = passes l f n (tests .1)
+
+  split : records f ≡ lines ++ footer (length lines + 1) (checksum lines) ∷ []
+  split = records-split l (properFooter (flowNumber name)) f n right
+
+  some : 0 < length f
+  some = omega (arith, records-le f, ap length split, length-append lines (footer (length lines + 1) (checksum lines) ∷ []))
+
+  front : turned tab bar (sheetOf f) ≡ joined lines
+  unfolding sheetOf
+  front = turned-back bar tab (joined lines) (none-joined tab lines refl (lines-no-tab l (properFooter (flowNumber name)) f n right))
+
+  feed-free : someHolds 0x0A lines ≡ false
+  feed-free = none-front 0x0A lines (footer (length lines + 1) (checksum lines)) (ap (someHolds 0x0A) (sym split) ∙ records-free f)
+
+  count : length (records (sheetOf f)) ≡ length lines
+  count =
+      sym (records-barred-length tab (sheetOf f) (λ e. omega arith))
+      ∙ ap (λ (s : List ℕ). length (records s)) (sym (turned-bars (sheetOf f)) ∙ front) ∙ ap length (records-joined lines feed-free)
+
+  total : checksumOf (turned tab bar (sheetOf f)) ≡ checksum lines
+  total = ap checksumOf front ∙ checksumOf-joined lines feed-free
+
+  made-is : made (sheetOf f) ≡ withFeed f
+  unfolding made joined
+  made-is =
+      let foot = footer (length lines + 1) (checksum lines) in
+      (λ i. front i ++ footer (count i + 1) (total i) ++ 0x0A ∷ [])
+      ∙ append-assoc (joined lines) foot (0x0A ∷ []) ∙ sym (joined-append lines (foot ∷ []))
+      ∙ ap joined (sym split) ∙ feed-joined f some
+
+  still-accepts : verdict name (made (sheetOf f)) ≡ verdicts.Accepted n
+  unfolding verdict
+  still-accepts = ap (verdict name) made-is ∙ rw (tests .0) (accepted l (withFeed f) n (feed-passes l f n some (omega arith) right))
+
+  no-bar : holds bar (sheetOf f) ≡ false
+  unfolding sheetOf
+  no-bar = turned-gone bar tab (joined lines) (λ e. omega arith)
+
+  ended-lines : linesEnded (sheetOf f) ≡ true
+  unfolding sheetOf
+  ended-lines = ap linesEnded (turned-joined bar tab lines (λ e. omega arith)) ∙ joined-ends (map (turned bar tab) lines)
+
+  -- an accepted file of at most 1,048,000 bytes, read and written again, is the same file with a line feed added if the last was absent
+  pub file-back : (made (sheetOf f) ≡ withFeed f)
+      × ((room : ℕ) → length (withFeed f) ≤ room → written name (sheetOf f) room ≡ Done n (length (withFeed f)))
+  file-back =
+      let size = ap length made-is in
+      let foot = foot-length (length (records (sheetOf f)) + 1) (checksumOf (turned tab bar (sheetOf f))) in (
+        made-is,
+        λ room h.
+            taken name (sheetOf f) room n (length (withFeed f))
+            record {
+              within = omega (arith, made-length (sheetOf f), feed-long f);
+              noBar = no-bar;
+              ends = ended-lines;
+              accepts = still-accepts;
+              fits = omega arith;
+              bytes = sym size;
+            },
+      )
+
+-- two answers that say the same are the same, and leave the same bytes
+same-answer : (a b : Transfer) → paper a ≡ paper b → a ≡ b
+same-answer (Done n x) (Done m y) e = cc
+same-answer (Done n x) (Refused m r f) e = let z : _≡_ {A = ℕ} 0 1 = cc in absurd (omega arith)
+same-answer (Refused n q g) (Done m y) e = let z : _≡_ {A = ℕ} 0 1 = cc in absurd (omega arith)
+same-answer (Refused n q g) (Refused m r f) e = cc
+
+pub one-transfer : (a b answer : Transfer) (result old new new′ : List ℕ) → paper a ≡ paper answer → paper b ≡ paper answer
+    → new ≡ output a result old → new′ ≡ output b result old → (a ≡ b) × (new ≡ new′)
+one-transfer a b answer result old new new′ p q e f =
+    let same = same-answer a b (p ∙ sym q) in
+    (same, e ∙ ap (λ (x : Transfer). output x result old) same ∙ sym f)
+
+-- only one answer with its bytes meets the writer's promise, and only one the reader's
+module _ (name s : List ℕ) (a b : Transfer) (old new new′ : List ℕ) where
+  pub one-written : Wrote name s a old new → Wrote name s b old new′ → (a ≡ b) × (new ≡ new′)
+  one-written p q = one-transfer a b (written name s (length old)) (made s) old new new′ (p .says) (q .says) (p .leaves) (q .leaves)
+
+  pub one-read : Read name s a old new → Read name s b old new′ → (a ≡ b) × (new ≡ new′)
+  one-read p q = one-transfer a b (readTo name s (length old)) (sheetOf s) old new new′ (p .says) (q .says) (p .leaves) (q .leaves)
+
+-- both round trips, in the bytes that are lent
+module _ (name : List ℕ) (n b : ℕ) (old new : List ℕ) (answer : Transfer) (old′ new′ : List ℕ) where
+  -- a sheet written, and what was written read
+  pub sheet-returns : (sheet : List ℕ) → Wrote name sheet (Done n b) old new → Read name (take b new) answer old′ new′ → length sheet ≤ length old′
+      → (answer ≡ Done n (length sheet)) × (take (length sheet) new′ ≡ sheet)
+  sheet-returns sheet w r h =
+      let says = same-answer (Done n b) (written name sheet (length old)) (w .says) in
+      let t = takes name sheet (length old) n b (sym says) in
+      let back = sheet-back name sheet (length old) n b (sym says) in
+      let file : take b new ≡ made sheet = ap (take b) (w .leaves) ∙ take-at (made sheet) (drop b old) b (sym (t .bytes)) in
+      let is : answer ≡ Done n (length sheet) =
+      same-answer answer (readTo name (take b new) (length old′)) (r .says) ∙ ap (λ (f : List ℕ). readTo name f (length old′)) file ∙ back .1 (length old′) h in (
+        is,
+        ap (take (length sheet)) (r .leaves ∙ (λ i. output (is i) ((ap sheetOf file ∙ back .0) i) old′))
+            ∙ take-at sheet (drop (length sheet) old′) (length sheet) refl,
+      )
+
+  -- a file read, and what was read written
+  pub file-returns : (f : List ℕ) → Read name f (Done n b) old new → length f ≤ 1048000 → Wrote name (take b new) answer old′ new′
+      → length (withFeed f) ≤ length old′ → (answer ≡ Done n (length (withFeed f))) × (take (length (withFeed f)) new′ ≡ withFeed f)
+  unfolding readTo
+  file-returns f r short w h =
+      let says = same-answer (Done n b) (readTo name f (length old)) (r .says) in
+      let v = judged-done (verdict name f) (fitted (length old) (sheetOf f)) n b (sym says) in
+      let t = must-done (leb (length (sheetOf f)) (length old)) 17 0 0 n b (Done (v .0) (length (sheetOf f))) (v .2) in
+      let accepts = v .1 ∙ ap verdicts.Accepted (same-records (t .1)) in
+      let back = file-back name f n accepts short in
+      let sheet : take b new ≡ sheetOf f = ap (take b) (r .leaves) ∙ take-at (sheetOf f) (drop b old) b (sym (same-bytes (t .1))) in
+      let is : answer ≡ Done n (length (withFeed f)) =
+      same-answer answer (written name (take b new) (length old′)) (w .says) ∙ ap (λ (s : List ℕ). written name s (length old′)) sheet ∙ back .1 (length old′) h in (
+        is,
+        ap (take (length (withFeed f))) (w .leaves ∙ (λ i. output (is i) ((ap made sheet ∙ back .0) i) old′))
+            ∙ take-at (withFeed f) (drop (length (withFeed f)) old′) (length (withFeed f)) refl,
+      )

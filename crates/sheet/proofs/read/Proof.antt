@@ -1,0 +1,59 @@
+-- Why read is right: what stands before the last record is all records but the last, each with its line feed.
+use borrow.Author.Needs.{needs}
+use denote.Ref.{now}
+use Rattle.sheet.proofs.Handing.{read-refused, read-no-room, read-done}
+use Rattle.sheet.proofs.read.Statement.{statement}
+use Rattle.sheet.proofs.read.Tie as tie
+
+judge-requires : tie.Need-judge-requires
+judge-requires c κs = search needs
+
+enum-known-number : tie.Need-enum-known-number
+enum-known-number c = search needs
+
+enum-known-records : tie.Need-enum-known-records
+enum-known-records c = search needs
+
+last-start-requires : tie.Need-last-start-requires
+last-start-requires c κs = search needs
+
+returns : tie.Need-returns
+returns c =
+    let a = c .before .before .before .before .before .before .before .before .before .args in
+    let g = c .before .before .before .records .given in
+    let s = c .before .last-start in
+    read-no-room (now (a .flow)) (now (a .file)) (now (a .out)) (g .0 .0) (s .result) (rw (g .1) at (c .before .before .before .before .before .judge .ensures)) (s .ensures .0) (s .ensures .1) (c .if1 .taken)
+
+put-turned-requires : tie.Need-put-turned-requires
+put-turned-requires c κs = search needs
+
+returns-2 : tie.Need-returns-2
+returns-2 c =
+    let a = c .before .before .before .before .before .before .before .args in
+    let g = c .before .number .given in
+    read-refused (now (a .flow)) (now (a .file)) (now (a .out)) _ _ _ (rw (g .1) at (c .before .before .before .judge .ensures))
+
+same-length : tie.Need-same-length
+same-length c = search needs
+
+returns-3 : tie.Need-returns-3
+returns-3 c =
+    let a = c .before .before .before .before .before .before .before .before .before .before .before .before .before .args in
+    let g = c .before .before .before .before .before .before .before .records .given in
+    let s = c .before .before .before .before .before .last-start in
+    read-done (now (a .flow)) (now (a .file)) (now (a .out)) (g .0 .0) (s .result) (rw (g .1) at (c .before .before .before .before .before .before .before .before .before .judge .ensures)) (s .ensures .0) (s .ensures .1)
+    (c .before .before .put-turned .last .0) (c .before .before .before .before .if1 .left) (c .before .before .put-turned .ensures)
+
+pub read-spec : {M : Type 1} → statement M
+read-spec =
+    tie.close
+    (tie.spec
+    judge-requires
+    enum-known-number
+    enum-known-records
+    last-start-requires
+    returns
+    put-turned-requires
+    returns-2
+    same-length
+    returns-3)

@@ -1,0 +1,4 @@
+pub mod Sheets
+pub mod Write
+pub mod Read
+pub mod Code

@@ -1,0 +1,50 @@
+-- Sheets and the files made of them (document 01, "Sheets" and "Footer"). Assumes nothing.
+use Prim.Native.Nat.{ℕ, suc, _+_}
+use mathlib.Core.Bool.{cond}
+use mathlib.Core.List.{List, [], _∷_, _++_, map}
+use lib.Dec.{eqb}
+use lib.ListN.{length}
+use Rattle.record.specs.Records.{records, joined, holds}
+use Rattle.record.specs.Checksum.{checksumOf}
+use Rattle.field.specs.Numbers.{decimal}
+use Rattle.flow.specs.Letters.{ZPT}
+use Rattle.judge.specs.File.{bar, endsInFeed}
+
+-- the byte that parts fields in a sheet
+abbrev pub tab : ℕ
+tab = 0x09
+
+-- a byte, turned to another where it is this one
+abbrev pub turnedByte : ℕ → ℕ → ℕ → ℕ
+turnedByte from to b = cond (eqb b from) to b
+
+-- bytes, each of one value turned to another
+unfoldable pub turned : ℕ → ℕ → List ℕ → List ℕ
+turned from to s = map (turnedByte from to) s
+
+-- the footer of n records in all whose checksum is sum, without its line feed: ZPT, bar, count, bar, checksum
+unfoldable pub footer : ℕ → ℕ → List ℕ
+footer n sum = ZPT ++ bar ∷ (decimal n ++ bar ∷ decimal sum)
+
+-- the made file: the sheet with tabs turned to bars, and a right footer, with line feed, added
+unfoldable pub made : List ℕ → List ℕ
+made sheet = turned tab bar sheet ++ footer (length (records sheet) + 1) (checksumOf (turned tab bar sheet)) ++ 0x0A ∷ []
+
+-- the first of some lines that has a bar, the lines counted from i; 0 where none has
+unfoldable pub barLine : ℕ → List (List ℕ) → ℕ
+barLine i [] = 0
+barLine i (line ∷ lines) = cond (holds bar line) i (barLine (suc i) lines)
+
+-- all records but the last
+unfoldable pub butLast : List (List ℕ) → List (List ℕ)
+butLast [] = []
+butLast (r ∷ []) = []
+butLast (r ∷ q ∷ rs) = r ∷ butLast (q ∷ rs)
+
+-- the sheet of a file: all records before ZPT with bars turned to tabs, each line ended by a line feed
+unfoldable pub sheetOf : List ℕ → List ℕ
+sheetOf f = turned bar tab (joined (butLast (records f)))
+
+-- a file with its last line feed added if it was absent
+unfoldable pub withFeed : List ℕ → List ℕ
+withFeed f = cond (endsInFeed f) f (f ++ 0x0A ∷ [])

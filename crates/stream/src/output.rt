@@ -1,0 +1,114 @@
+// Lines of words parted by tabs, each made in a local array and written by one call.
+use judge::Verdict;
+use libc::STDOUT_FILENO;
+ghost use mathlib.Core.Path.{_≡_};
+ghost use Prim.Native.Nat.{_+_, _-_, _≤_, min};
+ghost use lib.ListN.{length};
+ghost use lib.IntN.{natAbs};
+ghost use lib.Seq.{paste};
+ghost use Rattle.io.specs.Counts.{Counts};
+
+// The smaller of two numbers.
+fn least(a: usize, b: usize) -> usize
+    ensures { λ r. ⌜ r ≡ min a b ⌝ }
+{
+    if a < b { a } else { b }
+}
+
+// Puts bytes into a line from place `at` on, as many as there is room for, and gives the place
+// behind them.
+fn put(line: &mut [u8], at: usize, s: &[u8]) -> usize
+    requires { ⌜ at ≤ length (now line) ⌝ }
+    ensures { λ r. ⌜ Counts r (now (line .exit)) ⌝ }
+    ensures { λ r. ⌜ now (line .exit) ≡ paste (now (line .entry)) at (now (s .entry)) (r - at) ⌝ }
+    ensures { λ r. ⌜ r ≡ at + min (length (now (s .entry))) (length (now (line .entry)) - at) ⌝ }
+{
+    let n = least(s.len(), line.len() - at);
+    let mut i = 0;
+    while i < n {
+        line[at + i] = s[i];
+        i += 1;
+    }
+    at + n
+}
+
+// Puts a tab and a number.
+fn put_number(line: &mut [u8], at: usize, n: usize) -> usize
+    requires { ⌜ at ≤ length (now line) ⌝ }
+    ensures { λ r. ⌜ Counts r (now (line .exit)) ⌝ }
+{
+    let mut digits = [0u8; 20];
+    let k = io::decimal(n as u64, &mut digits);
+    let behind = put(line, at, b"\t");
+    put(line, behind, &digits[..k])
+}
+
+// Writes a line of a word and three numbers.
+pub fn print_numbers(word: &[u8], a: usize, b: usize, c: usize) {
+    let mut line = [0u8; 128];
+    let at = put(&mut line, 0, word);
+    let at = put_number(&mut line, at, a);
+    let at = put_number(&mut line, at, b);
+    let at = put_number(&mut line, at, c);
+    let at = put(&mut line, at, b"\n");
+    io::write_all(STDOUT_FILENO, &line[..at]);
+}
+
+// Writes a line of a word and four numbers.
+pub fn print_transfer(word: &[u8], a: usize, b: usize, c: usize, d: usize) {
+    let mut line = [0u8; 128];
+    let at = put(&mut line, 0, word);
+    let at = put_number(&mut line, at, a);
+    let at = put_number(&mut line, at, b);
+    let at = put_number(&mut line, at, c);
+    let at = put_number(&mut line, at, d);
+    let at = put(&mut line, at, b"\n");
+    io::write_all(STDOUT_FILENO, &line[..at]);
+}
+
+// Writes the line of a verdict on a file.
+pub fn print_verdict(v: Verdict) {
+    match v {
+        Verdict::Accepted(records) => print_numbers(b"ok", 0, records, 0),
+        Verdict::Refused {
+            number,
+            record,
+            field,
+        } => print_numbers(b"refused", number, record, field),
+    }
+}
+
+// Writes a line of `ok`, 0, the kind of a value and the value, which has at most 512 bytes.
+pub fn print_value(kind: &[u8], value: &[u8]) {
+    let mut line = [0u8; 640];
+    let at = put(&mut line, 0, b"ok\t0\t");
+    let at = put(&mut line, at, kind);
+    let at = put(&mut line, at, b"\t");
+    let at = put(&mut line, at, value);
+    let at = put(&mut line, at, b"\n");
+    io::write_all(STDOUT_FILENO, &line[..at]);
+}
+
+// The size of a whole number; below zero it is one more than that of the flipped bits.
+fn size(n: i64) -> u64
+    ensures { λ r. ⌜ r ≡ natAbs n ⌝ }
+{
+    if n < 0 {
+        return (!n) as u64 + 1;
+    }
+    n as u64
+}
+
+// Writes the line of a value that is a whole number.
+pub fn print_whole(n: i64) {
+    let mut digits = [0u8; 20];
+    let k = io::decimal(size(n), &mut digits);
+    let mut value = [0u8; 21];
+    if n < 0 {
+        let sign = put(&mut value, 0, b"-");
+        let at = put(&mut value, sign, &digits[..k]);
+        print_value(b"number", &value[..at]);
+    } else {
+        print_value(b"number", &digits[..k]);
+    }
+}

@@ -1,0 +1,188 @@
+// Times the screen and the peer side by side on good files of each flow. Prints a line for each flow, part and size: flow,
+// part, bytes of the file, and the best time of one call in nanoseconds, of the peer and of the screen, parted by tabs. Both
+// must give the same answers and bytes, or the program ends with status 1.
+#include "peer.h"
+#include "../include/screen.h"
+
+#define MOST 1048576
+#define LINE 128
+// How long the rounds of one line go on, and how much one round takes at least.
+#define LINE_NS 300000000.0
+#define ROUND_BYTES 262144
+
+typedef unsigned char byte;
+
+// A sheet grows line by line up to a size.
+struct sheet { byte *at; size_t len, most; };
+
+static byte sheet_bytes[MOST], file[MOST], peer_out[MOST], screen_out[MOST];
+
+// Adds a line, its bars turned to tabs; 0 where there is no room for it.
+static int add(struct sheet *s, const char *line) {
+    size_t n = strlen(line);
+    if (s->len + n > s->most) return 0;
+    for (size_t i = 0; i < n; i++) s->at[s->len++] = line[i] == '|' ? '\t' : line[i];
+    return 1;
+}
+
+static unsigned scatter(unsigned i) { return (i * 2654435761u) >> 8; }
+
+// One set of each flow: the record that heads it and those below. 0 where the sheet is full.
+static int add_p0012(struct sheet *s, unsigned set) {
+    char line[LINE];
+    if (set > 0) return 0;
+    if (!add(s, "ZPD|20240105|R1||1234567|SF\n") || !add(s, "HDR|1234567890|_A|1234567890123\n")) return 0;
+    for (unsigned i = 1; i <= 50; i++) {
+        snprintf(line, LINE, "GSP|%u|%u|%u.%04u\n", i, scatter(i), scatter(i + 7), scatter(i) % 10000);
+        if (!add(s, line)) return 0;
+    }
+    return 1;
+}
+
+static int add_p0181(struct sheet *s, unsigned set) {
+    char line[LINE];
+    if (!add(s, "GS7|_B\n")) return 0;
+    for (unsigned i = 0; i < 10; i++) {
+        // a SUP stands with its first BMU or not at all
+        if (s->len + LINE > s->most) return 0;
+        snprintf(line, LINE, "SUP|S%03u\n", i);
+        add(s, line);
+        for (unsigned j = 0; j < 20; j++) {
+            snprintf(line, LINE, "BMU|T_UNIT-%04u|20240105|%s|%s\n", j, j % 3 ? "" : "20241231", set % 2 ? "T" : "F");
+            if (!add(s, line)) return 0;
+        }
+    }
+    return 1;
+}
+
+static int add_p0133(struct sheet *s, unsigned set) {
+    char line[LINE];
+    snprintf(line, LINE, "SB1|H|M|S%07u|20240105|M\n", set % 10000000);
+    if (!add(s, line)) return 0;
+    for (unsigned i = 0; i < 48; i++) {
+        snprintf(line, LINE, "CM1|%s|%u|%u.%u|-%u\n", i % 4 ? "AB" : "", scatter(i) % 10000000, scatter(set + i) % 1000, i % 10, i + 1);
+        if (!add(s, line)) return 0;
+    }
+    return 1;
+}
+
+static int add_p0134(struct sheet *s, unsigned set) {
+    char line[LINE];
+    snprintf(line, LINE, "SB2|M|S%07u|20240105|M\n", set % 10000000);
+    if (!add(s, line)) return 0;
+    for (unsigned i = 0; i < 48; i++) {
+        snprintf(line, LINE, "CM2|%s|%u|%u|%u.%u|-%u.5\n", i % 4 ? "AB" : "", scatter(i) % 10000000, i, scatter(set + i) % 1000, i % 10, i + 1);
+        if (!add(s, line)) return 0;
+    }
+    return 1;
+}
+
+static int add_p0138(struct sheet *s, unsigned set) {
+    return set == 0 && add(s, "SUB|B|||20231231|M\n") && add(s, "TA2|1.0250\n");
+}
+
+static int add_p0164(struct sheet *s, unsigned set) {
+    char line[LINE];
+    snprintf(line, LINE, "SUB|B|X|S%03u|20240105|M\n", set % 1000);
+    if (!add(s, line)) return 0;
+    for (unsigned i = 1; i <= 28; i++) {
+        snprintf(line, LINE, "SP7|_C|SUPP|F|202402%02u|SF|%u\n", i, scatter(set + i));
+        if (!add(s, line)) return 0;
+    }
+    return 1;
+}
+
+struct flow { const char *name, *header; int (*add_set)(struct sheet *, unsigned); };
+
+static const struct flow flows[] = {
+    { "P0012001", "ZHD|P0012001|G|SVAA|Z|POOL|20240105120000\n", add_p0012 },
+    { "P0181002", "ZHD|P0181002|G|SVAA|Z|POOL|20240105120000\n", add_p0181 },
+    { "P0133001", "ZHD|P0133001|Z|SVAA|Z|POOL|20240105120000\n", add_p0133 },
+    { "P0134001", "ZHD|P0134001|Z|SVAA|Z|POOL|20240105120000\n", add_p0134 },
+    { "P0138001", "ZHD|P0138001|G|SVAA|Z|POOL|20240105120000\n", add_p0138 },
+    { "P0164001", "ZHD|P0164001|G|SVAA|Z|POOL|20240105120000\n", add_p0164 },
+};
+
+// What is timed: a part on a file or its sheet. The peer's answer and the screen's are kept, to be compared.
+static const byte *name;
+static size_t sheet_len, file_len;
+static struct peer_answer peer_said;
+static screen_cell screen_said[4];
+
+static void peer_judges(void) { peer_said = peer_judge(name, 8, file, file_len); }
+static void screen_judges(void) { screen_judge(name, 8, file, file_len, screen_said); }
+static void peer_writes(void) { peer_said = peer_write(name, 8, sheet_bytes, sheet_len, peer_out, MOST); }
+static void screen_writes(void) { screen_write(name, 8, sheet_bytes, sheet_len, screen_out, MOST, screen_said); }
+static void peer_reads(void) { peer_said = peer_read(name, 8, file, file_len, peer_out, MOST); }
+static void screen_reads(void) { screen_read(name, 8, file, file_len, screen_out, MOST, screen_said); }
+static void peer_sums(void) { peer_said = (struct peer_answer){ .record = peer_checksum(file, file_len) }; }
+static void screen_sums(void) { screen_said[0] = 0, screen_said[1] = screen_checksum(file, file_len), screen_said[2] = 0; }
+
+static const struct { const char *name; void (*peer)(void), (*screen)(void); } parts[] = {
+    { "judge", peer_judges, screen_judges },
+    { "write", peer_writes, screen_writes },
+    { "read", peer_reads, screen_reads },
+    { "checksum", peer_sums, screen_sums },
+};
+
+// Processor time, so that other programs on the machine count less.
+static double now(void) {
+    struct timespec t;
+    clock_gettime(CLOCK_PROCESS_CPUTIME_ID, &t);
+    return t.tv_sec * 1e9 + t.tv_nsec;
+}
+
+static double time_of(void (*part)(void), unsigned calls) {
+    double began = now();
+    for (unsigned i = 0; i < calls; i++) part();
+    return (now() - began) / calls;
+}
+
+// Both accepted, and gave the same records and bytes.
+static int same(void) {
+    return !peer_said.refused && screen_said[0] == 0 && screen_said[1] == peer_said.record && screen_said[2] == peer_said.bytes
+        && !memcmp(peer_out, screen_out, peer_said.bytes);
+}
+
+// Best of many rounds, the two taken in turn. 0 where their answers differ.
+static int time_part(size_t p) {
+    double peer = 1e18, screen = 1e18, began = now();
+    unsigned calls = file_len < ROUND_BYTES ? ROUND_BYTES / file_len : 1;
+    parts[p].peer();
+    parts[p].screen();
+    if (!same()) return 0;
+    for (int round = 0; round < 5 || now() - began < LINE_NS; round++) {
+        double a = time_of(parts[p].peer, calls), b = time_of(parts[p].screen, calls);
+        if (a < peer) peer = a;
+        if (b < screen) screen = b;
+    }
+    printf("%.8s\t%s\t%zu\t%.0f\t%.0f\n", (const char *)name, parts[p].name, file_len, peer, screen);
+    return 1;
+}
+
+// A good sheet and file of about this size; 0 where the flow has none so long.
+static int make(const struct flow *f, size_t size) {
+    struct sheet s = { sheet_bytes, 0, size - 32 };
+    unsigned set = 0;
+    add(&s, f->header);
+    while (f->add_set(&s, set)) set++;
+    name = (const byte *)f->name, sheet_len = s.len;
+    struct peer_answer a = peer_write(name, 8, sheet_bytes, sheet_len, file, MOST);
+    file_len = a.bytes;
+    return !a.refused;
+}
+
+int main(void) {
+    static const size_t sizes[] = { 65536, 262144, 1048000 };
+    for (size_t i = 0; i < sizeof flows / sizeof *flows; i++) {
+        size_t before = 0;
+        for (size_t j = 0; j < sizeof sizes / sizeof *sizes; j++) {
+            if (!make(&flows[i], sizes[j])) return 1;
+            if (file_len == before) break;
+            before = file_len;
+            for (size_t p = 0; p < sizeof parts / sizeof *parts; p++)
+                if (!time_part(p)) return 1;
+        }
+    }
+    return 0;
+}
