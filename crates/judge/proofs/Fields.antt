@@ -12,17 +12,18 @@ use borrow.Author.Tests.{eq-eqb, ne-eqb, eqb-true, eqb-false}
 use Rattle.text.specs.Rules.{must}
 use Rattle.record.specs.Records.{fields, field, fieldsFrom, run, IsPart}
 use Rattle.record.specs.Step.{IsField}
-use Rattle.record.proofs.Cursors.{from-past, field-found}
+use Rattle.record.proofs.Cursors.{from-past, field-found, part-length}
 use Rattle.record.proofs.Fields.{from-start, field-number}
 use Rattle.field.specs.Judge.{marked, fieldAnswer, refusalOf}
 use Rattle.field.specs.declared.FieldType.{FieldType}
 use Rattle.field.specs.declared.FieldAnswer.{FieldAnswer}
 use Rattle.field.specs.declared.Mark.{Mark}
 use Rattle.layout.specs.Layout.{Rule}
-use Rattle.layout.specs.Numbers.{word, typeOf, fixedOf, ruleOf, rulesFrom}
+use Rattle.layout.specs.Numbers.{word, typeOf, fixedOf, ruleOf, rulesFrom, layoutOf}
+use Rattle.layout.proofs.Names.{find-long}
 use Rattle.layout.proofs.FieldRules.{from-length, from-drop, from-done, type-is}
 use Rattle.judge.specs.Fields.{fieldFault, fieldsFault}
-use Rattle.judge.specs.Record.{shapeFault}
+use Rattle.judge.specs.Record.{kindOf, shapeFault}
 use Rattle.judge.specs.Code.{ShapeRight}
 use Rattle.judge.specs.declared.Check.{Check}
 use Rattle.judge.specs.declared.Check.the-variants.{Fine, Fault}
@@ -31,7 +32,7 @@ use Rattle.judge.specs.declared.Shape.the-variants.{Wrong}
 
 -- the first field of a record, and the others
 module _ (sep : ℕ) (r : List ℕ) {a e n : ℕ} (x : IsField sep r 0 a e n) where
-  pub cut : fields sep r ≡ take (e - a) (drop a r) ∷ fieldsFrom sep n r
+  cut : fields sep r ≡ take (e - a) (drop a r) ∷ fieldsFrom sep n r
   cut = sym (from-start sep r) ∙ x .splits
 
   pub first-is : take (e - a) (drop a r) ≡ field sep 1 r
@@ -40,11 +41,23 @@ module _ (sep : ℕ) (r : List ℕ) {a e n : ℕ} (x : IsField sep r 0 a e n) wh
   pub rest-is : fieldsFrom sep n r ≡ drop 1 (fields sep r)
   rest-is = sym (ap (drop 1) cut)
 
-  -- it starts at 0 and ends one place before the others
-  pub kind-cut : IsField sep r 0 0 (n - 1) n
-  kind-cut =
-      let w : e ≡ n - 1 = omega (arith, x .past) in
-      rw (x .starts, w) at x
+  first-length : length (field sep 1 r) ≡ e
+  first-length =
+      let z = x .starts in
+      omega (arith, ap length (sym first-is), part-length r a e (x .ordered) (x .within))
+
+-- the name of a known kind has three bytes: there the first field ends
+module _ (sep : ℕ) (t fixed r : List ℕ) (known : kindOf sep (layoutOf t fixed) r ≡ 0 → ⊥) where
+  kind-go : (b : Bool) → eqb (length (field sep 1 r)) 3 ≡ b → length (field sep 1 r) ≡ 3
+  kind-go true h = eqb-true _ _ h
+  kind-go false h = absurd (known (find-long t fixed (field sep 1 r) (eqb-false _ _ h)))
+
+  pub kind-ends : IsField sep r 0 0 3 4
+  kind-ends =
+      let e = 0 + run sep (drop 0 r) in
+      let x = field-found sep r 0 e (omega arith) refl in
+      let z : e ≡ 3 = sym (first-length sep r x) ∙ kind-go (eqb (length (field sep 1 r)) 3) refl in
+      rw z at x
 
 -- no bytes are a part of any
 pub none-part : (s : List ℕ) {p : List ℕ} → [] ≡ p → IsPart s 0 0 p
@@ -95,13 +108,13 @@ module _ (sep : ℕ) (r : List ℕ) (at left : ℕ) where
     field-later h = sym (ap (λ (l : List (List ℕ)). getD l left []) (x .splits) ∙ at-rest here (fieldsFrom sep n r) left h)
 
 -- one field by the rule at p
-pub field-judged : (t fixed : List ℕ) (p : ℕ) (s : List ℕ) (m : Mark) {type : FieldType} {value : List ℕ} {a : FieldAnswer} {n : ℕ}
-    → type ≡ typeOf (word t p) → marked m (fixedOf t fixed p) ≡ ruleOf t fixed p .mark → value ≡ fixedOf t fixed p
+pub field-judged : (t fixed : List ℕ) (p : ℕ) (s : List ℕ) (m : Mark) (value : List ℕ) {type : FieldType} {a : FieldAnswer} {n : ℕ}
+    → type ≡ typeOf (word t p) → marked m (fixedOf t fixed p) ≡ ruleOf t fixed p .mark → marked m value ≡ marked m (fixedOf t fixed p)
     → a ≡ fieldAnswer type (marked m value) s → n ≡ refusalOf a → n ≡ fieldFault (ruleOf t fixed p) s
 unfolding fieldFault
-field-judged t fixed p s m ty mk v a n =
+field-judged t fixed p s m value ty mk v a n =
     let k = ty ∙ type-is t fixed p in
-    let q = ap (marked m) v ∙ mk in
+    let q = v ∙ mk in
     n ∙ ap refusalOf (a ∙ (λ i. fieldAnswer (k i) (q i) s))
 
 -- what is said by the rules from f on of the fields from the place at on
@@ -147,23 +160,23 @@ module _ (t fixed : List ℕ) (p n sep key : ℕ) (r : List ℕ) where
   count = length (fields sep r)
 
   -- the kind is read
-  module _ {at : ℕ} (x : IsField sep r 0 0 (at - 1) at) {a e : ℕ} where
-    first-found : (b : Bool) → eqb key 1 ≡ b → a ≡ cond b 0 0 → e ≡ cond b (at - 1) 0 → key < 2 → IsPart r a e (field sep key r)
+  module _ (x : IsField sep r 0 0 3 4) {a e : ℕ} where
+    first-found : (b : Bool) → eqb key 1 ≡ b → a ≡ cond b 0 0 → e ≡ cond b 3 0 → key < 2 → IsPart r a e (field sep key r)
     first-found true h s d l =
         rw (s, d, eqb-true key 1 h) (record { ordered = omega arith; within = x .within; is = first-is sep r x })
     first-found false h s d l = rw (s, d) (field-zero sep key r (omega (arith, eqb-false key 1 h)))
 
-    first-ahead : (b : Bool) → eqb key 1 ≡ b → a ≡ cond b 0 0 → e ≡ cond b (at - 1) 0 → 2 ≤ key → (a ≡ 0) × (e ≡ 0)
+    first-ahead : (b : Bool) → eqb key 1 ≡ b → a ≡ cond b 0 0 → e ≡ cond b 3 0 → 2 ≤ key → (a ≡ 0) × (e ≡ 0)
     first-ahead true h s d l = absurd (omega (arith, eqb-true key 1 h))
     first-ahead false h s d l = (s, d)
 
-    pub reading-kind : a ≡ cond (eqb key 1) 0 0 → e ≡ cond (eqb key 1) (at - 1) 0 → Reading t fixed p n sep key r 0 at a e
+    pub reading-kind : a ≡ cond (eqb key 1) 0 0 → e ≡ cond (eqb key 1) 3 0 → Reading t fixed p n sep key r 0 4 a e
     reading-kind s d =
         record {
           upto = omega arith;
           rest = rest-is sep r x;
           counted = omega (arith, ap length (cut sep r x));
-          same = all-left t fixed p n sep r at (rest-is sep r x);
+          same = all-left t fixed p n sep r 4 (rest-is sep r x);
           found = first-found (eqb key 1) refl s d;
           ahead = first-ahead (eqb key 1) refl s d;
         }

@@ -19,6 +19,7 @@ use Rattle.judge.specs.declared.State.{State}
 use Rattle.judge.specs.declared.Outcome.{Outcome}
 use Rattle.judge.specs.declared.Outcome.the-variants.{Pass, Stop}
 use Rattle.judge.specs.declared.Verdict.the-variants.{Accepted, Refused}
+use Rattle.judge.proofs.RightFields.{no-fault}
 
 -- 4 and 5
 module _ (l : Layout) (last k : ℕ) where
@@ -34,6 +35,9 @@ module _ (l : Layout) (last k : ℕ) where
     pub in-place : mayFollow l last k ≡ true → Fine ≡ placeFault l last k
     unfolding placeFault
     in-place h = rw (ne-eqb _ _ kind, h)
+
+  pub placed-known : Fine ≡ placeFault l last k → k ≡ 0 → ⊥
+  placed-known e h = no-fault (no-kind h ∙ sym e)
 
 -- 11
 module _ (l : Layout) (k : ℕ) (old key : List ℕ) {at : ℕ} (is : at ≡ row l k .key) where

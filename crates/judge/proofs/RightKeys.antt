@@ -1,5 +1,5 @@
 -- The key before a record is that of the last record of its kind since its set began. Assumes nothing.
-use Prim.Native.Nat.{ℕ, _+_, _-_, _≤_, _<_}
+use Prim.Native.Nat.{ℕ, _+_, _-_, _≤_}
 use mathlib.Core.Path.{_≡_, refl, sym, ap, _∙_}
 use mathlib.Core.Bool.{Bool, true, false, cond, not, _&&_, _||_, false≢true}
 use mathlib.Core.List.{List, [], _∷_, _++_, foldl, foldl-append}
@@ -7,28 +7,22 @@ use native.Mathlib.Omega.{arith}
 use lib.Dec.{eqb, leb}
 use lib.ListN.{length, getD}
 use borrow.Author.Tests.{eqb-true, eqb-false, leb-true, not-true, eq-eqb, ne-eqb}
-use Rattle.text.specs.Characters.{all, isDigit}
-use Rattle.text.specs.Order.{sameBytes, textOrder}
+use Rattle.text.specs.Order.{sameBytes}
 use Rattle.text.specs.declared.Order.{Order}
 use Rattle.text.specs.declared.Order.the-variants.{Below, Equal, Above}
 use Rattle.text.proofs.Lists.{same-refl}
-use Rattle.text.proofs.Orders.{number-below}
 use Rattle.record.specs.Records.{field}
-use Rattle.field.specs.Numbers.{minus}
 use Rattle.field.specs.Types.{isNull}
-use Rattle.field.specs.Judge.{Marked, mayBeEmpty}
-use Rattle.field.specs.Keys.{keyOrder, wholeOrder, digitsOrder}
-use Rattle.field.specs.declared.FieldType.{FieldType}
-use Rattle.field.specs.declared.FieldType.the-variants as types
-use Rattle.field.proofs.Digits.{and-left, and-right, digit-low, no-minus}
-use Rattle.field.proofs.Filled.{period-below}
+use Rattle.field.specs.Judge.{mayBeEmpty}
+use Rattle.field.specs.Keys.{keyOrder}
+use Rattle.field.proofs.Digits.{and-left, and-right}
 use Rattle.layout.specs.Layout.{KindRow, Layout, row, kindNamed}
 use Rattle.layout.proofs.Names.{found-row}
 use Rattle.grammar.specs.Table.{rowOf}
 use Rattle.flow.specs.Publication.{Flow, PublishedKind, names, null, rowFor, layoutFor}
 use Rattle.judge.specs.Record.{kindOf, keyIn, keyWith, keyBefore, keyType, isBelow, ascending, keyFault}
 use Rattle.judge.specs.File.{bar}
-use Rattle.judge.specs.Right.{kindIn, NoneOfKind, publishedAs, publishedFor, Meets, Typed, keyTypeFor, Ascends}
+use Rattle.judge.specs.Right.{kindIn, NoneOfKind, publishedAs, publishedFor, Typed, keyTypeFor, Ascends}
 use Rattle.judge.specs.declared.Check.the-variants.{Fine}
 use Rattle.judge.proofs.RightEach.{Each, each-first, each-rest}
 use Rattle.judge.proofs.RightFields.{must-fine, fine-must, filled-right}

@@ -1,5 +1,6 @@
-// A file judged for a flow: one record against a table and a running state, and the loop over a file.
+// A file judged for a flow: one record against a table and a running state, the loop over a file, and the value of one field.
 use field::FieldType;
+use field::Mark;
 use record::Cursor;
 use record::FieldCursor;
 use record::FieldStep;
@@ -16,9 +17,10 @@ ghost use Rattle.text.specs.Rules.{must};
 ghost use Rattle.record.specs.Records.{fields, field as fieldOf, IsPart};
 ghost use Rattle.record.specs.Step.{IsField};
 ghost use Rattle.layout.specs.Layout.{row};
-ghost use Rattle.layout.specs.Numbers.{ruleOf, rulesFrom, layoutOf};
+ghost use Rattle.layout.specs.Numbers.{fixedOf, ruleOf, rulesFrom, layoutOf};
 ghost use Rattle.judge.specs.Fields.{fieldFault};
 ghost use Rattle.field.specs.Numbers.{spelled};
+ghost use Rattle.field.specs.Judge.{marked};
 ghost use Rattle.judge.specs.Record.{kindOf, keyIn, keyType as keyTypeOf, isBelow, placeFault, keyFault, footerFault};
 ghost use Rattle.judge.specs.File.{endsInFeed, ended as endedOf, judgedBy, judged, paper};
 ghost use Rattle.judge.specs.Code.{keyInSlots, ShapeRight, ClosedRight, OutcomeRight, WalkRight};
@@ -82,30 +84,27 @@ pub enum Walk {
     Through(State),
 }
 
+// The bytes of the fixed value of the rule at place p, where its mark needs them.
+fn value_at<'a>(t: &[u32], fixed: &'a [u8], mark: Mark, p: usize) -> &'a [u8]
+    requires { ⌜ p + 2 < length (now t) ⌝ }
+    ensures { λ r. ⌜ marked mark (now r) ≡ marked mark (fixedOf (now (t .entry)) (now (fixed .entry)) p) ⌝ }
+{
+    match mark {
+        Mark::Fixed => layout::fixed_at(t, fixed, p),
+        Mark::Bare => text::part(fixed, 0, 0),
+        Mark::Opt => text::part(fixed, 0, 0),
+    }
+}
+
 // One field by the rule at place p: 7, 8, 9, 10, or 0.
 fn judge_field(t: &[u32], fixed: &[u8], class: &[u8; 256], p: usize, s: &[u8]) -> usize
     requires { ⌜ (p + 2 < length (now t)) × IsClassTable (now class) ⌝ }
     ensures { λ r. ⌜ r ≡ fieldFault (ruleOf (now (t .entry)) (now (fixed .entry)) p) (now (s .entry)) ⌝ }
 {
-    let kind = layout::type_at(t, p);
     let mark = layout::mark_at(t, p);
-    let value = layout::fixed_at(t, fixed, p);
+    let value = value_at(t, fixed, mark, p);
+    let kind = layout::type_at(t, p);
     field::refusal(field::judge_marked(kind, mark, value, class, s)) as usize
-}
-
-// Past the kind, which is the first field.
-fn after_kind(sep: u8, r: &[u8]) -> FieldCursor
-    ensures { λ c. ⌜ IsField sep (now (r .entry)) 0 0 (c .at - 1) (c .at) ⌝ }
-{
-    let start = FieldCursor { at: 0 };
-    match start.step(sep, r) {
-        FieldStep::Field {
-            start: _,
-            end: _,
-            next,
-        } => next,
-        FieldStep::Done => start,
-    }
 }
 
 // The field from start up to end where it is the one sought, else what was found before.
@@ -122,16 +121,23 @@ fn keep(here: bool, start: usize, end: usize, before: Span) -> Span
     }
 }
 
+// 6: the number of fields is wrong.
+fn wrong_count() -> Shape
+    ensures { λ s. ⌜ s ≡ shapes.Wrong 6 0 ⌝ }
+{
+    Shape::Wrong {
+        number: 6,
+        field: 0,
+    }
+}
+
 // A field is wrong, where there should be n of them after the kind: a wrong number of fields comes first.
 fn field_wrong(sep: u8, n: usize, number: usize, field: usize, r: &[u8]) -> Shape
     requires { ⌜ n + 1 < 2 ^ 64 ⌝ }
     ensures { λ s. ⌜ s ≡ must (eqb (length (fields sep (now (r .entry)))) (n + 1)) (shapes.Wrong 6 0) (shapes.Wrong number field) ⌝ }
 {
     if record::count_fields(sep, r) != n + 1 {
-        return Shape::Wrong {
-            number: 6,
-            field: 0,
-        };
+        return wrong_count();
     }
     Shape::Wrong {
         number: number,
@@ -139,7 +145,8 @@ fn field_wrong(sep: u8, n: usize, number: usize, field: usize, r: &[u8]) -> Shap
     }
 }
 
-// The fields from 2 on by the n rules at place p, read as they come; where all is right, the place of field key.
+// The fields from 2 on by the n rules at place p, read as they come, after a kind of three bytes; where all is right, the place of
+// field key.
 fn judge_fields(
     t: &[u32],
     fixed: &[u8],
@@ -150,19 +157,16 @@ fn judge_fields(
     key: usize,
     r: &[u8],
 ) -> Shape
-    requires { ⌜ (p + 3 * n ≤ length (now t)) × IsClassTable (now class) ⌝ }
+    requires { ⌜ (p + 3 * n ≤ length (now t)) × IsClassTable (now class) × IsField sep (now r) 0 0 3 4 ⌝ }
     ensures { λ s. ⌜ ShapeRight sep key (rulesFrom (now (t .entry)) (now (fixed .entry)) p n) (now (r .entry)) s ⌝ }
 {
-    let mut c = after_kind(sep, r);
-    let mut found = keep(key == 1, 0, c.at - 1, Span { from: 0, to: 0 });
+    let mut c = FieldCursor { at: 4 };
+    let mut found = keep(key == 1, 0, 3, Span { from: 0, to: 0 });
     let mut f = 0;
     while f < n {
         match c.step(sep, r) {
             FieldStep::Done => {
-                return Shape::Wrong {
-                    number: 6,
-                    field: 0,
-                };
+                return wrong_count();
             }
             FieldStep::Field { start, end, next } => {
                 let number = judge_field(t, fixed, class, p + 3 * f, &r[start..end]);
@@ -176,10 +180,7 @@ fn judge_fields(
         }
     }
     if c.at <= r.len() {
-        return Shape::Wrong {
-            number: 6,
-            field: 0,
-        };
+        return wrong_count();
     }
     Shape::Right(found)
 }
@@ -301,9 +302,9 @@ fn check_place(t: &[u32], last: usize, k: usize) -> Check
     Check::Fine
 }
 
-// 6 to 10: the number of fields, and those from 2 on; where all is right, the place of the key.
+// 6 to 10: the number of fields, and those from 2 on, of a record whose kind has three bytes; where all is right, the place of the key.
 fn check_shape(t: &[u32], fixed: &[u8], class: &[u8; 256], sep: u8, k: usize, r: &[u8]) -> Shape
-    requires { ⌜ IsClassTable (now class) ⌝ }
+    requires { ⌜ IsClassTable (now class) × IsField sep (now r) 0 0 3 4 ⌝ }
     ensures { λ s. ⌜ ((bytes : List ℕ) → ShapeRight sep (row (layoutOf (now (t .entry)) bytes) k .key) (row (layoutOf (now (t .entry)) (now (fixed .entry))) k .rules) (now (r .entry)) s) ⌝ }
 {
     let rules = layout::rules_of(t, k);

@@ -27,7 +27,7 @@ use Rattle.judge.specs.declared.Verdict.the-variants.{Accepted, Refused}
 use Rattle.judge.proofs.Files.{last-snoc}
 use Rattle.judge.proofs.RightFields.{FineRecord, must-fine, no-refusal, each-fine}
 use Rattle.sheet.specs.Sheets.{tab, footer, butLast, withFeed}
-use Rattle.sheet.proofs.Feet.{ProperFooter, lastRow}
+use Rattle.sheet.proofs.Footers.{ProperFooter, lastRow}
 use Rattle.sheet.proofs.MadeFiles.{ends-so}
 use Rattle.sheet.proofs.TabFree.{kind-name, each-free}
 

@@ -25,7 +25,7 @@ use Rattle.sheet.specs.Code.{linesJudged}
 use Rattle.sheet.proofs.Turning.{turned-bars, turned-length}
 use Rattle.sheet.proofs.Holding.{none-snoc, records-hold}
 use Rattle.sheet.proofs.Lines.{same-checked, same-last, same-sum, checked-snoc}
-use Rattle.sheet.proofs.Feet.{ProperFooter, lastRow, foot-free, foot-fault, foot-kind, foot-last, foot-short}
+use Rattle.sheet.proofs.Footers.{ProperFooter, lastRow, foot-free, foot-fault, foot-kind, foot-last, foot-short}
 
 not-feed : tab ≡ 0x0A → ⊥
 not-feed e = omega arith

@@ -27,7 +27,7 @@ use Rattle.sheet.specs.declared.Transfer.{Transfer}
 use Rattle.sheet.specs.declared.Transfer.the-variants.{Done, Refused}
 use Rattle.sheet.proofs.Turning.{turned-bars, turned-back, turned-gone, turned-joined}
 use Rattle.sheet.proofs.Holding.{none-joined}
-use Rattle.sheet.proofs.Feet.{properFooter, foot-length}
+use Rattle.sheet.proofs.Footers.{properFooter, foot-length}
 use Rattle.sheet.proofs.MadeFiles.{made-length, records-made, sheet-turned, ends-so}
 use Rattle.sheet.proofs.Starts.{butLast-snoc}
 use Rattle.sheet.proofs.Handing.{fits}

@@ -31,7 +31,7 @@ use Rattle.judge.proofs.RightEach.{Each, each-first, each-rest}
 use Rattle.judge.proofs.RightFields.{FineRecord, must-fine}
 use Rattle.sheet.specs.Sheets.{tab}
 use Rattle.sheet.proofs.Holding.{none-append, none-passing, fields-hold}
-use Rattle.sheet.proofs.Feet.{ProperFooter, name-free}
+use Rattle.sheet.proofs.Footers.{ProperFooter, name-free}
 
 -- a filled field has the form of its type, and any other is empty
 form-go : (nul emp may form range mark : Bool) (v : FieldAnswer)

@@ -25,7 +25,7 @@ use Rattle.sheet.specs.declared.Transfer.the-variants as transfers
 use Rattle.sheet.specs.declared.Made.{Made}
 use Rattle.sheet.specs.declared.Made.the-variants as mades
 use Rattle.sheet.proofs.Turning.{turned-bytes}
-use Rattle.sheet.proofs.Feet.{lastRow, properFooter}
+use Rattle.sheet.proofs.Footers.{lastRow, properFooter}
 use Rattle.sheet.proofs.MadeFiles.{sheet-sum, made-judged}
 
 -- the lines of a sheet
@@ -100,7 +100,7 @@ module _ (name sheet : List ℕ) where
           unfolding verdict
           verdict-is = rw is-held (made-judged l (properFooter (flowNumber name)) sheet short free ends small)
 
-          refused-is : (number r f room : ℕ) → linesJudged l (records sheet) ≡ Refused number r f → written name sheet room ≡ transfers.Refused number r f
+          pub refused-is : (number r f room : ℕ) → linesJudged l (records sheet) ≡ Refused number r f → written name sheet room ≡ transfers.Refused number r f
           unfolding written
           refused-is number r f room e = rw (is-held, le-leb (length sheet) 1048000 short, free, ends, verdict-is, e)
 

@@ -347,10 +347,10 @@ pub fn text_order(a: &[u8], b: &[u8]) -> Order
         if b.len() <= i {
             return Order::Above;
         }
-        if a[i] < b[i] {
-            return Order::Below;
-        }
-        if b[i] < a[i] {
+        if a[i] != b[i] {
+            if a[i] < b[i] {
+                return Order::Below;
+            }
             return Order::Above;
         }
         i += 1;

@@ -15,7 +15,7 @@ key-field-requires : tie.Need-key-field-requires
 key-field-requires c κs = search needs
 
 judge-fields-requires : tie.Need-judge-fields-requires
-judge-fields-requires c κs = (c .before .rules-of .ensures (now (c .before .before .before .before .before .args .fixed)) .within, c .before .before .before .before .before .pre)
+judge-fields-requires c κs = (c .before .rules-of .ensures (now (c .before .before .before .before .before .args .fixed)) .within, c .before .before .before .before .before .pre .0, c .before .before .before .before .before .pre .1)
 
 returns : tie.Need-returns
 returns c =

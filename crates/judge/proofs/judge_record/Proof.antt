@@ -8,7 +8,8 @@ use Rattle.layout.specs.Layout.{row}
 use Rattle.layout.specs.Numbers.{layoutOf}
 use Rattle.judge.specs.Code.{keyInSlots, ShapeRight}
 use Rattle.judge.specs.declared.Shape.the-variants.{Right}
-use Rattle.judge.proofs.Leaves.{too-long, stop-place, stop-shape, closed}
+use Rattle.judge.proofs.Fields.{kind-ends}
+use Rattle.judge.proofs.Leaves.{placed-known, too-long, stop-place, stop-shape, closed}
 use Rattle.judge.proofs.judge_record.Statement.{statement}
 use Rattle.judge.proofs.judge_record.Tie as tie
 
@@ -39,7 +40,13 @@ enum-told : tie.Need-enum-told
 enum-told c = search needs
 
 check-shape-requires : tie.Need-check-shape-requires
-check-shape-requires c κs = search needs
+check-shape-requires c κs =
+    let a = c .before .before .before .before .before .before .before .before .before .before .args in
+    let fixed = now (a .fixed) in
+    let placed = sym (c .enum-told .given .1) ∙ c .before .before .check-place .ensures fixed in (
+      c .before .before .before .before .before .before .before .before .before .before .pre .1,
+      kind-ends (a .sep) (now (a .t)) fixed (now (a .r)) (λ e. placed-known (layoutOf (now (a .t)) fixed) (a .st .last) (c .before .before .before .kind-of .result) placed (c .before .before .before .kind-of .ensures .0 fixed ∙ e)),
+    )
 
 enum-known-number-2 : tie.Need-enum-known-number-2
 enum-known-number-2 c = search needs

@@ -1,7 +1,7 @@
 -- Why footer_length is right: a footer is its two numbers, ZPT and two bars; with its line feed one byte more.
 use borrow.Author.Needs.{needs}
 use native.Mathlib.Omega.{arith}
-use Rattle.sheet.proofs.Feet.{foot-length}
+use Rattle.sheet.proofs.Footers.{foot-length}
 use Rattle.sheet.proofs.footer_length.Statement.{statement}
 use Rattle.sheet.proofs.footer_length.Tie as tie
 

@@ -3,8 +3,8 @@ use borrow.Author.Needs.{needs}
 use native.Mathlib.Omega.{arith}
 use lib.ListN.{length-set}
 use denote.Ref.{now}
-use Rattle.sheet.proofs.Feet.{foot-length}
-use Rattle.sheet.proofs.FootPut.{count-fits, bar-fits, total-fits, feed-fits, all-length, all-put}
+use Rattle.sheet.proofs.Footers.{foot-length}
+use Rattle.sheet.proofs.FooterPut.{count-fits, bar-fits, total-fits, feed-fits, all-length, all-put}
 use Rattle.sheet.proofs.put_footer.Statement.{statement}
 use Rattle.sheet.proofs.put_footer.Tie as tie
 

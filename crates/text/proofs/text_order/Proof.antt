@@ -8,8 +8,6 @@ use Rattle.text.specs.Order.{textOrder}
 use Rattle.text.proofs.Orders.{order-below, order-above, order-next, order-longer, order-shorter, order-ends}
 use Rattle.text.proofs.text_order.Statement.{statement}
 use Rattle.text.proofs.text_order.Tie as tie
-use Rattle.text.proofs.text_order.Reads as reads
-use Rattle.text.proofs.text_order.Lts as lts
 
 abbrev Inv-loop : tie.InvT-loop
 Inv-loop a b i₀ i = (i ≤ length a) × (i ≤ length b) × (textOrder (drop i a) (drop i b) ≡ textOrder a b)
@@ -31,21 +29,21 @@ shared-slice-read-if2 c = search needs
 shared-slice-read-if2-2 : tie.Need-shared-slice-read-if2-2 Inv-loop μ-loop
 shared-slice-read-if2-2 c = search needs
 
-returns-2 : tie.Need-returns-2 Inv-loop μ-loop
-returns-2 c =
-    let l = c .before .before .before .before .before .loop in
-    sym (sym (l .inv .2) ∙ order-below _ _ (l .i) (c .before .before .before .before .loop-test .taken) (c .before .before .before .if1 .left) (c .if2 .taken))
-
 shared-slice-read-if3 : tie.Need-shared-slice-read-if3 Inv-loop μ-loop
 shared-slice-read-if3 c = search needs
 
 shared-slice-read-if3-2 : tie.Need-shared-slice-read-if3-2 Inv-loop μ-loop
 shared-slice-read-if3-2 c = search needs
 
+returns-2 : tie.Need-returns-2 Inv-loop μ-loop
+returns-2 c =
+    let l = c .before .before .before .before .before .before .before .before .loop in
+    sym (sym (l .inv .2) ∙ order-below _ _ (l .i) (c .before .before .before .before .before .before .before .loop-test .taken) (c .before .before .before .before .before .before .if1 .left) (c .if3 .taken))
+
 returns-3 : tie.Need-returns-3 Inv-loop μ-loop
 returns-3 c =
     let l = c .before .before .before .before .before .before .before .before .loop in
-    sym (sym (l .inv .2) ∙ order-above _ _ (l .i) (c .before .before .before .before .before .before .before .loop-test .taken) (c .before .before .before .before .before .before .if1 .left) (c .if3 .taken))
+    sym (sym (l .inv .2) ∙ order-above _ _ (l .i) (c .before .before .before .before .before .before .before .loop-test .taken) (c .before .before .before .before .before .before .if1 .left) (omega (arith, c .if3 .left, c .before .before .before .if2 .taken)))
 
 add-i : tie.Need-add-i Inv-loop μ-loop
 add-i c = search needs
@@ -55,10 +53,10 @@ loop-less c = search needs
 
 loop-again : tie.Need-loop-again Inv-loop μ-loop
 loop-again c =
-    let l = c .before .before .before .before .before .before .before .before .loop in (
+    let l = c .before .before .before .before .before .loop in (
       search needs,
       search needs,
-      order-next _ _ (l .i) (c .before .before .before .before .before .before .before .loop-test .taken) (c .before .before .before .before .before .before .if1 .left) (c .before .before .before .if2 .left) (c .if3 .left) ∙ l .inv .2,
+      order-next _ _ (l .i) (c .before .before .before .before .loop-test .taken) (c .before .before .before .if1 .left) (omega (arith, c .if2 .left)) (omega (arith, c .if2 .left)) ∙ l .inv .2,
     )
 
 returns-4 : tie.Need-returns-4 Inv-loop μ-loop
@@ -81,9 +79,9 @@ text-order-spec =
     returns
     shared-slice-read-if2
     shared-slice-read-if2-2
-    returns-2
     shared-slice-read-if3
     shared-slice-read-if3-2
+    returns-2
     returns-3
     add-i
     loop-less

@@ -10,7 +10,7 @@ use Rattle.flow.specs.Letters.{ZPT}
 use Rattle.judge.specs.File.{bar}
 use Rattle.sheet.specs.Sheets.{footer}
 use Rattle.sheet.specs.Code.{put}
-use Rattle.sheet.proofs.Feet.{foot-length}
+use Rattle.sheet.proofs.Footers.{foot-length}
 use Rattle.sheet.proofs.Putting.{put-four, grown, grown-byte, grown-length}
 
 -- ZPT and its bar
