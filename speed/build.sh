@@ -10,8 +10,10 @@ build_library() {
     "$rt" staticlib screen >&2 </dev/null || die "the static library was not built: screen is not proved"
 }
 
-compile() { # SOURCE OBJECT
-    "$tools/bin/clang" --target=x86_64-unknown-linux-gnu -std=c17 -O3 -Wall -Wextra -c "$1" -o "$2" || die "$1 was not compiled"
+compile() { # SOURCE OBJECT [FLAG...]
+    source=$1 object=$2
+    shift 2
+    "$tools/bin/clang" --target=x86_64-unknown-linux-gnu -std=c17 -O3 -Wall -Wextra "$@" -c "$source" -o "$object" || die "$source was not compiled"
 }
 
 link_c() { # PROGRAM FILE...

@@ -62,6 +62,17 @@ static const unsigned char text_character[256] = {
     ['0' ... '9'] = 1, ['A' ... 'Z'] = 1, ['a' ... 'z'] = 1,
 };
 
+// The next line feed. By the C library, which looks at many bytes at once; with PLAIN a byte at a time, as a plain one-pass program does.
+static const unsigned char *find_feed(const unsigned char *s, size_t n) {
+#ifdef PLAIN
+    for (size_t i = 0; i < n; i++)
+        if (s[i] == '\n') return s + i;
+    return 0;
+#else
+    return memchr(s, '\n', n);
+#endif
+}
+
 static int is_digit(unsigned char c) { return (unsigned)(c - '0') < 10; }
 
 static int all_digits(const unsigned char *s, size_t n) {
@@ -226,7 +237,7 @@ static const struct flow *find_flow(const unsigned char *name, size_t n) {
 
 static int check_records(const struct flow *f, struct state *st, const unsigned char *s, size_t n, unsigned char sep, struct peer_answer *a) {
     for (size_t at = 0; at < n;) {
-        const unsigned char *feed = memchr(s + at, '\n', n - at);
+        const unsigned char *feed = find_feed(s + at, n - at);
         size_t len = feed ? (size_t)(feed - s) - at : n - at;
         if (!check_record(f, st, s + at, len, sep, a)) return 0;
         at += len + 1;
@@ -298,7 +309,7 @@ struct peer_answer peer_read(const unsigned char *name, size_t name_len, const u
 uint32_t peer_checksum(const unsigned char *s, size_t n) {
     uint32_t sum = 0;
     for (size_t at = 0; at < n;) {
-        const unsigned char *feed = memchr(s + at, '\n', n - at);
+        const unsigned char *feed = find_feed(s + at, n - at);
         size_t len = feed ? (size_t)(feed - s) - at : n - at;
         sum = add_record(sum, s + at, len, '|');
         at += len + 1;
