@@ -1,26 +1,34 @@
-/* The screen for C: judges pool transfer files of the British electricity market.
+/* The screen for C: judges pool transfer files of the British electricity market. Link target/staticlib/libscreen.a, which
+   `rt staticlib screen` builds for x86-64 Linux; it needs memset of the C library and nothing else. Each function is proved
+   to give the answer that its contract in crates/screen states, for all bytes and numbers. example.c calls every one.
 
-   The library is target/staticlib/libscreen.a, which `rt staticlib screen` builds for x86-64 Linux. Each function below is
-   proved to give the answer that its contract states, for every name, every byte and every number: see crates/screen.
-   Nothing is asked of a caller but valid pointers, which C cannot state: a pointer, never NULL, to as many bytes as the
-   length beside it says (one with length 0 is not read), and arrays of the size shown. What is written must not overlap
-   anything else that is given. No function keeps anything, allocates, or calls another library.
+   What a caller has to see to, since C can't state it:
+   - Bytes are a pointer and a length, with no NUL at their end. No pointer is NULL; behind one with length 0 nothing is read.
+   - An array has the size shown: four cells for answer, 96 bytes for follow.
+   - What is written (answer, out, follow) overlaps nothing else that is given to the same call.
+   No function keeps anything between calls or allocates, so several threads may call at once; 8 KiB of stack are enough.
 
-   Bytes are given as a pointer and a length. A flow is the eight characters of its name. An answer is four numbers:
+   A flow is the eight characters of its name: P0012001, P0133001, P0134001, P0138001, P0164001 or P0181002. Records and
+   fields count from 1. An answer is four cells. All four are written, whatever they held, and a cell that says nothing is 0:
 
-     cell      0                1          2                3
-     refused   number, 1 to 18  record     field            0
-     judge     0                records    0                0
-     write     0                records    bytes written    0
-     read      0                records    bytes written    0
-     value,    0                1 (empty)  0                0
-     field     0                2 (number) its size         1 if below zero, else 0
-               0                3 (truth)  1 yes, 0 no      0
-               0                4 (text)   where it starts  where it ends
-     step      0                0          kinds to follow  1 if the list is complete, else 0
-               0                place      0                0
+     cell          0                1           2                3
+     any refusal   number, 1 to 18  record or 0 field or 0       0
+     judge         0                records     0                0
+     write, read   0                records     bytes written    0
+     value, field  0                1: empty    0                0
+                   0                2: number   its size         1 if below zero, else 0
+                   0                3: truth    1 yes, 0 no      0
+                   0                4: text     where it starts  where it ends, both counted from 0, the end not in it
+     step          0                0           kinds to follow  1 if the list is complete, else 0
+                   0                place       0                0; the kind, counted from 1, where the list stopped
 
-   Cell 0 tells a refusal from all else. Records and fields count from 1; 0 means none in particular. */
+   Cell 0 tells a refusal from all else:
+      1 no such flow              7 required field empty           13 checksum wrong
+      2 file or sheet too long    8 form of a field                14 records end before ZPT
+      3 record over 512 bytes     9 range of a field               15 last line feed absent
+      4 no kind of this flow     10 fixed value or null differs    16 bar in a sheet
+      5 kind not allowed here    11 key not above the one before   17 out too short
+      6 wrong number of fields   12 record count wrong             18 no such record, field, width or code */
 #ifndef SCREEN_H
 #define SCREEN_H
 
@@ -28,48 +36,50 @@
 extern "C" {
 #endif
 
+/* The compiler's own names for size_t, uint32_t and uint64_t, so that no other header is needed. */
 typedef unsigned char screen_byte;
-typedef __SIZE_TYPE__ screen_size;    /* size_t */
-typedef __UINT32_TYPE__ screen_code;  /* uint32_t */
-typedef __UINT64_TYPE__ screen_cell;  /* uint64_t */
+typedef __SIZE_TYPE__ screen_size;
+typedef __UINT32_TYPE__ screen_code;
+typedef __UINT64_TYPE__ screen_cell;
 
-/* The codes of types. text takes its width in p, int its digits, dec all its digits in p and those after the point in q. */
+/* The codes of types, 0 to 7. */
 enum screen_type {
     SCREEN_TEXT, SCREEN_INT, SCREEN_DEC, SCREEN_DATE, SCREEN_DATETIME, SCREEN_BOL, SCREEN_PERIOD, SCREEN_NULL
 };
 
-/* The codes of marks: nothing; the field may be empty; the field must be the fixed bytes. */
+/* The codes of marks, 0 to 2: none; the field may be empty; the field must be the fixed bytes. */
 enum screen_mark { SCREEN_BARE, SCREEN_OPT, SCREEN_FIXED };
 
 /* Judges a file for a flow. */
 void screen_judge(const screen_byte *flow, screen_size flow_len, const screen_byte *file, screen_size file_len,
                   screen_cell answer[4]);
 
-/* Writes the file of a sheet. On success the first `bytes written` bytes of out are the file; all others, and on a
-   refusal all of out, are as before. 17 says that out is too short. */
+/* Writes the file of a sheet: a line a record, fields parted by tabs, no ZPT line. The file is the first `bytes written`
+   bytes of out. All bytes behind them, and on a refusal all of out, are as before. sheet_len + 26 bytes are always enough. */
 void screen_write(const screen_byte *flow, screen_size flow_len, const screen_byte *sheet, screen_size sheet_len,
                   screen_byte *out, screen_size out_len, screen_cell answer[4]);
 
-/* Reads a file to a sheet, in the same way. */
+/* Reads a file to a sheet, which goes to out in the same way. file_len bytes are always enough. */
 void screen_read(const screen_byte *flow, screen_size flow_len, const screen_byte *file, screen_size file_len,
                  screen_byte *out, screen_size out_len, screen_cell answer[4]);
 
 /* Gives the value of one field of a file that the flow accepts. A dec is a whole number of units of its last place, a date
-   or datetime its digits as one number, a text the bytes of the file from where it starts up to where it ends. */
+   or datetime its digits as one number; the places of a text are places in file. */
 void screen_value(const screen_byte *flow, screen_size flow_len, const screen_byte *file, screen_size file_len,
                   screen_size record, screen_size field, screen_cell answer[4]);
 
-/* Judges one field's bytes against a type and a mark. Any number gets an answer: 18 for a code that is none, or for a
-   width that the type does not have. A type without widths passes over p and q, a mark other than SCREEN_FIXED over fixed,
-   SCREEN_NULL over the mark. */
+/* Judges one field's bytes against a type and a mark; the places of a text are places in bytes. text has its width in p (1
+   to 512), int its digits (1 to 18), dec all its digits in p (2 to 18) and those after the point in q (1 to p - 1). Another
+   width, type or mark is refusal 18. p and q count only where the type has them, fixed only with SCREEN_FIXED, and with
+   SCREEN_NULL the three marks are the same. */
 void screen_field(screen_code type, screen_size p, screen_size q, screen_code mark, const screen_byte *fixed,
                   screen_size fixed_len, const screen_byte *bytes, screen_size bytes_len, screen_cell answer[4]);
 
-/* The checksum of all records in some bytes. */
+/* Returns the checksum of all records in some bytes. It refuses nothing. */
 screen_code screen_checksum(const screen_byte *bytes, screen_size bytes_len);
 
-/* Steps the flow table through kinds, three bytes each, end to end. Cell 1 is the place, from 1, where the list stopped, or
-   0; then the names of the kinds that may follow are at the front of follow, end to end. The rest of it is as before. */
+/* Steps the flow table through kinds, three bytes each, end to end. Where the list went through, the names of the kinds that
+   may follow are at the front of follow, end to end. All bytes behind them, and else all of follow, are as before. */
 void screen_step(const screen_byte *flow, screen_size flow_len, const screen_byte *kinds, screen_size kinds_len,
                  screen_byte follow[96], screen_cell answer[4]);
 

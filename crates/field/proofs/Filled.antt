@@ -47,15 +47,10 @@ must-both : (x y : Bool) (r after : FieldAnswer) → must (x && y) r after ≡ m
 must-both true y r after = refl
 must-both false y r after = refl
 
--- an int by its sign
-module _ (n : ℕ) (s : List ℕ) where
-  pub int-below : minus s ≡ true → filled (types.Int n) bare s ≡ intAnswer true n (drop 1 s)
-  unfolding filled form range valueOf intForm intValue unsigned intAnswer
-  int-below e = rw e
-
-  pub int-above : minus s ≡ false → filled (types.Int n) bare s ≡ intAnswer false n s
-  unfolding filled form range valueOf intForm intValue unsigned intAnswer
-  int-above e = rw e
+-- an int is its sign and its digits
+pub int-is : (n : ℕ) (s : List ℕ) → filled (types.Int n) bare s ≡ intAnswer (minus s) n (unsigned s)
+unfolding filled form range valueOf intForm intValue intAnswer
+int-is n s = refl
 
 -- the form of an int by its sign
 module _ (s : List ℕ) where
@@ -152,15 +147,10 @@ dec-signed below p q d =
     (leb (length d - 1) p) (leb (length a + length b) p) (Refused 8) (Refused 9) (Number (signed below (number (a ++ b))))
     (λ h. ap (λ (n : ℕ). leb n p) (digits-of q d (ltb-true q (length d) (and-left _ (eqb (getD d (length d - q - 1) 0) 46) h))))
 
--- a dec by its sign
-module _ (p q : ℕ) (s : List ℕ) where
-  pub dec-below : minus s ≡ true → filled (types.Dec p q) bare s ≡ pointedAnswer true p q (drop 1 s)
-  unfolding filled form range valueOf decForm decValue unsigned
-  dec-below e = rw e (dec-signed true p q (drop 1 s))
-
-  pub dec-above : minus s ≡ false → filled (types.Dec p q) bare s ≡ pointedAnswer false p q s
-  unfolding filled form range valueOf decForm decValue unsigned
-  dec-above e = rw e (dec-signed false p q s)
+-- a dec is its sign and its bytes after it
+pub dec-is : (p q : ℕ) (s : List ℕ) → filled (types.Dec p q) bare s ≡ pointedAnswer (minus s) p q (unsigned s)
+unfolding filled form range valueOf decForm decValue
+dec-is p q s = dec-signed (minus s) p q (unsigned s)
 
 -- a value is no refusal
 value-holds : (t : FieldType) (s : List ℕ) → refusalOf (valueOf t s) ≡ 0

@@ -4,30 +4,19 @@ use mathlib.Core.Bool.{Bool, true, false, cond, _&&_}
 use mathlib.Core.List.{List}
 use Prim.Native.Nat.{ℕ, suc, _+_, _-_, _*_, _%_, _^_, _≤_, _<_}
 use native.Mathlib.Nat.{sub-zero, le-trans, mod-lt, mul-assoc, mul-le-mul-left, mul-le-mul-right, pow-succ', pow-le-pow-right, one-le-pow}
-use native.Mathlib.Numerals.{add-one}
 use native.Mathlib.Omega.{arith}
-use lib.Bits.{bitOr, or-lt, or-add-and, and-le-l, and-le-r}
+use lib.Bits.{bitOr}
 use lib.Dec.{ltb, leb, lit<}
 use lib.ListN.{length, getD, drop}
 use lib.Pow.{pow-add}
-use lib.Seq.{drop-cons}
 use borrow.Author.Tests.{lt-ltb, le-ltb, ltb-true, ltb-false, le-leb, lt-leb}
 use Rattle.text.specs.Characters.{all, isDigit}
-use Rattle.text.proofs.Lists.{all-end}
+use Rattle.text.proofs.Lists.{all-here, all-end}
+use Rattle.text.proofs.Ors.{or-below, grouped}
 use Rattle.field.specs.Numbers.{numberFrom}
 use Rattle.field.specs.Leaves.{speltFrom}
 use Rattle.field.specs.declared.Spelt.the-variants.{Digits, Other}
 use Rattle.field.proofs.Digits.{upper, and-left, and-right, digit-low, digit-high, number-next, number-end}
-
--- an or is small where both sides are
-or-small : (a b : ℕ) (s t : Bool) → ltb a 256 ≡ s → ltb b 256 ≡ t → ltb (bitOr a b) 256 ≡ (s && t)
-or-small a b true true p q = lt-ltb (bitOr a b) 256 (or-lt 8 a b (ltb-true a 256 p) (ltb-true b 256 q))
-or-small a b true false p q =
-    let h : 256 ≤ b = ltb-false b 256 q in
-    le-ltb (bitOr a b) 256 (omega (arith, or-add-and a b, and-le-l a b))
-or-small a b false t p q =
-    let h : 256 ≤ a = ltb-false a 256 p in
-    le-ltb (bitOr a b) 256 (omega (arith, or-add-and a b, and-le-r a b))
 
 -- the two marks of a byte are small where it is a digit
 low-mark : (b : ℕ) → b < 256 → ltb (303 - b) 256 ≡ leb 48 b
@@ -44,16 +33,11 @@ high-mark b = go (ltb (b + 198) 256) refl
     go true e = let k : b + 198 < 256 = ltb-true (b + 198) 256 e in sym (le-leb b 57 (omega arith))
     go false e = let k : 256 ≤ b + 198 = ltb-false (b + 198) 256 e in sym (lt-leb b 57 (omega arith))
 
--- three tests in one
-grouped : (a b c : Bool) → (a && b && c) ≡ (a && (b && c))
-grouped true b c = refl
-grouped false b c = refl
-
 marks-next : (marks b : ℕ) → b < 256 → ltb (bitOr (bitOr marks (303 - b)) (b + 198)) 256 ≡ (ltb marks 256 && isDigit b)
 unfolding isDigit
 marks-next marks b h =
-    or-small (bitOr marks (303 - b)) (b + 198) (ltb marks 256 && leb 48 b) (leb b 57)
-    (or-small marks (303 - b) (ltb marks 256) (leb 48 b) refl (low-mark b h)) (high-mark b)
+    or-below 8 (bitOr marks (303 - b)) (b + 198) (ltb marks 256 && leb 48 b) (leb b 57)
+    (or-below 8 marks (303 - b) (ltb marks 256) (leb 48 b) refl (low-mark b h)) (high-mark b)
     ∙ grouped (ltb marks 256) (leb 48 b) (leb b 57)
 
 -- a digit's last four bits
@@ -98,12 +82,12 @@ module _ (v : ℕ) (d : List ℕ) (n marks i : ℕ) (p : Passed v d n marks i) w
         test =
             ap (λ (t : Bool). t && all isDigit (drop (i + 1) d)) (marks-next marks b small)
             ∙ grouped (ltb marks 256) (isDigit b) (all isDigit (drop (i + 1) d))
-            ∙ ap (λ (t : Bool). ltb marks 256 && t) (sym (all-here b e)) ∙ p .test;
+            ∙ ap (λ (t : Bool). ltb marks 256 && t) (sym here) ∙ p .test;
         spells = λ k. spelt k;
       }
     where
-      all-here : (b : ℕ) → b ≡ getD d i 0 → all isDigit (drop i d) ≡ (isDigit b && all isDigit (drop (i + 1) d))
-      all-here b e = rw (add-one, drop-cons d i 0 h, e)
+      here : all isDigit (drop i d) ≡ (isDigit b && all isDigit (drop (i + 1) d))
+      here = rw e (all-here isDigit d i h)
 
       spelt : bitOr (bitOr marks (303 - b)) (b + 198) < 256 → numberFrom (n * 10 + b % 16) (drop (i + 1) d) ≡ numberFrom v d
       spelt k =

@@ -8,7 +8,7 @@ ghost use lib.IntN.{pos};
 ghost use lib.ListN.{length};
 ghost use Rattle.text.specs.Rules.{must};
 ghost use Rattle.text.specs.Characters.{all, isDigit, from-to, IsClassTable};
-ghost use Rattle.field.specs.Numbers.{minus as minusOf, isZero, signed as signedOf, spelled};
+ghost use Rattle.field.specs.Numbers.{minus as minusOf, unsigned as unsignedOf, isZero, signed as signedOf, spelled};
 ghost use Rattle.field.specs.Calendar.{leap, daysIn, isDay, isDate, isTime};
 ghost use Rattle.field.specs.Types.{Sound, widthRight, isNull};
 ghost use Rattle.field.specs.Judge.{bare, marked, mayBeEmpty, meetsMark, filled, fieldAnswer, fieldJudged, paper, refusalOf};
@@ -106,6 +106,16 @@ fn minus(s: &[u8]) -> bool
     s[0] == 45
 }
 
+// The bytes after the minus, if there is one.
+fn unsigned<'a>(s: &'a [u8]) -> &'a [u8]
+    ensures { λ r. ⌜ now r ≡ unsignedOf (now (s .entry)) ⌝ }
+{
+    if minus(s) {
+        return &s[1..];
+    }
+    s
+}
+
 // One byte or more, and no zero before another.
 fn leads_right(d: &[u8]) -> bool
     ensures { λ r. ⌜ r ≡ leads (now (d .entry)) ⌝ }
@@ -169,15 +179,11 @@ fn int_of(below: bool, d: &[u8], n: usize) -> FieldAnswer
 }
 
 // An int by its sign.
-fn judge_int(s: &[u8], n: usize) -> FieldAnswer
+pub fn judge_int(s: &[u8], n: usize) -> FieldAnswer
     requires { ⌜ n ≤ 18 ⌝ }
     ensures { λ r. ⌜ r ≡ filled (types.Int n) bare (now (s .entry)) ⌝ }
 {
-    if minus(s) {
-        int_of(true, &s[1..], n)
-    } else {
-        int_of(false, s, n)
-    }
+    int_of(minus(s), unsigned(s), n)
 }
 
 // Each byte is the digit 0.
@@ -257,15 +263,11 @@ fn dec_of(below: bool, d: &[u8], p: usize, q: usize) -> FieldAnswer
 }
 
 // A dec by its sign.
-fn judge_dec(s: &[u8], p: usize, q: usize) -> FieldAnswer
+pub fn judge_dec(s: &[u8], p: usize, q: usize) -> FieldAnswer
     requires { ⌜ p ≤ 18 ⌝ }
     ensures { λ r. ⌜ r ≡ filled (types.Dec p q) bare (now (s .entry)) ⌝ }
 {
-    if minus(s) {
-        dec_of(true, &s[1..], p, q)
-    } else {
-        dec_of(false, s, p, q)
-    }
+    dec_of(minus(s), unsigned(s), p, q)
 }
 
 // Each fourth year but each hundredth, and each four hundredth after all.
@@ -346,7 +348,7 @@ fn date_answer(v: u64) -> FieldAnswer
 }
 
 // A date is 8 digits, then a day of the calendar.
-fn judge_date(s: &[u8]) -> FieldAnswer
+pub fn judge_date(s: &[u8]) -> FieldAnswer
     ensures { λ r. ⌜ r ≡ filled types.Date bare (now (s .entry)) ⌝ }
 {
     if s.len() != 8 {
@@ -373,7 +375,7 @@ fn datetime_answer(v: u64) -> FieldAnswer
 }
 
 // A datetime is 14 digits, then a day of the calendar and a time of the day.
-fn judge_datetime(s: &[u8]) -> FieldAnswer
+pub fn judge_datetime(s: &[u8]) -> FieldAnswer
     ensures { λ r. ⌜ r ≡ filled types.Datetime bare (now (s .entry)) ⌝ }
 {
     if s.len() != 14 {
@@ -386,7 +388,7 @@ fn judge_datetime(s: &[u8]) -> FieldAnswer
 }
 
 // T or F.
-fn judge_bol(s: &[u8]) -> FieldAnswer
+pub fn judge_bol(s: &[u8]) -> FieldAnswer
     ensures { λ r. ⌜ r ≡ filled types.Bol bare (now (s .entry)) ⌝ }
 {
     if s.len() != 1 {
@@ -415,7 +417,7 @@ fn period_answer(v: u64) -> FieldAnswer
 }
 
 // An int first; one below zero is out of range like one of too many digits.
-fn judge_period(s: &[u8]) -> FieldAnswer
+pub fn judge_period(s: &[u8]) -> FieldAnswer
     ensures { λ r. ⌜ r ≡ filled types.Period bare (now (s .entry)) ⌝ }
 {
     if minus(s) {
@@ -444,7 +446,7 @@ fn judge_null(s: &[u8]) -> FieldAnswer
 }
 
 // No space at either end, listed characters, at most n of them.
-fn judge_text(class: &[u8; 256], s: &[u8], n: usize) -> FieldAnswer
+pub fn judge_text(class: &[u8; 256], s: &[u8], n: usize) -> FieldAnswer
     requires { ⌜ IsClassTable (now class) ⌝ }
     ensures { λ r. ⌜ r ≡ filled (types.Text n) bare (now (s .entry)) ⌝ }
 {

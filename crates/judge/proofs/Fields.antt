@@ -1,7 +1,7 @@
 -- Laws of the fields of one record: each by number, and each by its rule. Assumes nothing.
-use Prim.Native.Nat.{ℕ, zero, suc, _+_, _-_, _*_, _≤_, _<_}
+use Prim.Native.Nat.{ℕ, _+_, _-_, _*_, _≤_, _<_}
 use mathlib.Core.Path.{_≡_, refl, sym, ap, _∙_}
-use mathlib.Core.Bool.{Bool, true, false, cond}
+use mathlib.Core.Bool.{Bool, true, false, cond, _||_, false≢true}
 use mathlib.Core.List.{List, [], _∷_}
 use native.Mathlib.Decide.{decLt}
 use native.Mathlib.Omega.{arith}
@@ -13,15 +13,17 @@ use Rattle.text.specs.Rules.{must}
 use Rattle.record.specs.Records.{fields, field, fieldsFrom, run, IsPart}
 use Rattle.record.specs.Step.{IsField}
 use Rattle.record.proofs.Cursors.{from-past, field-found, part-length}
-use Rattle.record.proofs.Fields.{from-start, field-number}
-use Rattle.field.specs.Judge.{marked, fieldAnswer, refusalOf}
-use Rattle.field.specs.declared.FieldType.{FieldType}
+use Rattle.record.proofs.Fields.{from-start, field-number, by-number}
+use Rattle.field.specs.Types.{isNull}
+use Rattle.field.specs.Judge.{bare, mayBeEmpty, meetsMark, filled, fieldAnswer, refusalOf}
 use Rattle.field.specs.declared.FieldAnswer.{FieldAnswer}
-use Rattle.field.specs.declared.Mark.{Mark}
+use Rattle.field.specs.declared.FieldAnswer.the-variants.{Refused, Empty}
+use Rattle.field.proofs.Filled.{mark-late, mark-last}
 use Rattle.layout.specs.Layout.{Rule}
-use Rattle.layout.specs.Numbers.{word, typeOf, fixedOf, ruleOf, rulesFrom, layoutOf}
+use Rattle.layout.specs.Leaves.{mayBeEmptyBy, filledBy}
+use Rattle.layout.specs.Numbers.{ruleOf, rulesFrom, layoutOf}
 use Rattle.layout.proofs.Names.{find-long}
-use Rattle.layout.proofs.FieldRules.{from-length, from-drop, from-done, type-is}
+use Rattle.layout.proofs.FieldRules.{from-length, from-drop, from-done}
 use Rattle.judge.specs.Fields.{fieldFault, fieldsFault}
 use Rattle.judge.specs.Record.{kindOf, shapeFault}
 use Rattle.judge.specs.Code.{ShapeRight}
@@ -63,59 +65,65 @@ module _ (sep : ℕ) (t fixed r : List ℕ) (known : kindOf sep (layoutOf t fixe
 pub none-part : (s : List ℕ) {p : List ℕ} → [] ≡ p → IsPart s 0 0 p
 none-part s e = record { ordered = omega arith; within = omega arith; is = e }
 
--- field k among all fields
-by-number : (sep k : ℕ) (r : List ℕ) → (k ≡ 0 → ⊥) → getD (fields sep r) (k - 1) [] ≡ field sep k r
-by-number sep zero r h = absurd (h refl)
-by-number sep (suc k) r h =
-    let z : suc k - 1 ≡ k = omega arith in
-    rw z (sym (field-number sep k r))
-
-pub field-sought : (sep k : ℕ) (r : List ℕ) → (k ≡ 0 → ⊥) → getD (fieldsFrom sep 0 r) (k - 1) [] ≡ field sep k r
-field-sought sep k r h = ap (λ (l : List (List ℕ)). getD l (k - 1) []) (from-start sep r) ∙ by-number sep k r h
-
 pub field-zero : (sep k : ℕ) (r : List ℕ) → k ≡ 0 → IsPart r 0 0 (field sep k r)
 unfolding field
 field-zero sep k r h = rw h (none-part r refl)
 
--- an element of a list that is not empty: the first, or one of the others
-at-first : (p : List ℕ) (m : List (List ℕ)) (k : ℕ) → k ≡ 0 → getD (p ∷ m) k [] ≡ p
-at-first p m k z = rw z
+-- one field under a rule
+module _ (rule : Rule) (s : List ℕ) where
+  -- an empty one
+  module _ (none : length s ≡ 0) where
+    pub empty-right : mayBeEmptyBy rule ≡ true → 0 ≡ fieldFault rule s
+    unfolding fieldFault fieldAnswer
+    empty-right h = rw none (go (isNull (rule .type)) h)
+      where
+        go : (n : Bool) → (n || mayBeEmpty (rule .mark)) ≡ true
+            → 0 ≡ refusalOf (cond n Empty (must (mayBeEmpty (rule .mark)) (Refused 7) Empty))
+        go true h = refl
+        go false h = rw h
 
-at-rest : (p : List ℕ) (m : List (List ℕ)) (k : ℕ) → (k ≡ 0 → ⊥) → getD (p ∷ m) k [] ≡ getD m (k - 1) []
-at-rest p m zero h = absurd (h refl)
-at-rest p m (suc k) h =
-    let z : suc k - 1 ≡ k = omega arith in
-    rw z
+    pub empty-wrong : mayBeEmptyBy rule ≡ false → 7 ≡ fieldFault rule s
+    unfolding fieldFault fieldAnswer
+    empty-wrong h = rw none (go (isNull (rule .type)) h)
+      where
+        go : (n : Bool) → (n || mayBeEmpty (rule .mark)) ≡ false
+            → 7 ≡ refusalOf (cond n Empty (must (mayBeEmpty (rule .mark)) (Refused 7) Empty))
+        go true h = absurd (false≢true (sym h))
+        go false h = rw h
 
--- the search for a field: past the end, here, or among the others
-module _ (sep : ℕ) (r : List ℕ) (at left : ℕ) where
-  pub field-absent : length r < at → {p : List ℕ} → getD (fieldsFrom sep at r) left [] ≡ p → IsPart r 0 0 p
-  field-absent h e = none-part r (sym (ap (λ (l : List (List ℕ)). getD l left []) (from-past sep at r h)) ∙ e)
+  -- a filled one: its type first, then its mark
+  module _ (some : length s ≡ 0 → ⊥) where
+    abbrev typed : Bool → FieldAnswer
+    typed n = cond n (Refused 10) (filled (rule .type) bare s)
 
-  module _ {a e n : ℕ} (x : IsField sep r at a e n) where
-    abbrev here : List ℕ
-    here = take (e - a) (drop a r)
+    abbrev whole : Bool → FieldAnswer
+    whole n = cond n (Refused 10) (filled (rule .type) (rule .mark) s)
 
-    pub field-here : left ≡ 0 → {p : List ℕ} → getD (fieldsFrom sep at r) left [] ≡ p → IsPart r a e p
-    field-here h q =
-        record {
-          ordered = x .ordered;
-          within = x .within;
-          is = sym (ap (λ (l : List (List ℕ)). getD l left []) (x .splits) ∙ at-first here (fieldsFrom sep n r) left h) ∙ q;
-        }
+    is-whole : refusalOf (whole (isNull (rule .type))) ≡ fieldFault rule s
+    unfolding fieldFault fieldAnswer
+    is-whole = rw (ne-eqb (length s) 0 some)
 
-    pub field-later : (left ≡ 0 → ⊥) → getD (fieldsFrom sep n r) (left - 1) [] ≡ getD (fieldsFrom sep at r) left []
-    field-later h = sym (ap (λ (l : List (List ℕ)). getD l left []) (x .splits) ∙ at-rest here (fieldsFrom sep n r) left h)
+    pub type-wrong : (refusalOf (filledBy rule s) ≡ 0 → ⊥) → refusalOf (filledBy rule s) ≡ fieldFault rule s
+    type-wrong h = go (isNull (rule .type)) h ∙ is-whole
+      where
+        go : (n : Bool) → (refusalOf (typed n) ≡ 0 → ⊥) → refusalOf (typed n) ≡ refusalOf (whole n)
+        go true h = refl
+        go false h = sym (ap refusalOf (mark-late (rule .type) (rule .mark) s h))
 
--- one field by the rule at p
-pub field-judged : (t fixed : List ℕ) (p : ℕ) (s : List ℕ) (m : Mark) (value : List ℕ) {type : FieldType} {a : FieldAnswer} {n : ℕ}
-    → type ≡ typeOf (word t p) → marked m (fixedOf t fixed p) ≡ ruleOf t fixed p .mark → marked m value ≡ marked m (fixedOf t fixed p)
-    → a ≡ fieldAnswer type (marked m value) s → n ≡ refusalOf a → n ≡ fieldFault (ruleOf t fixed p) s
-unfolding fieldFault
-field-judged t fixed p s m value ty mk v a n =
-    let k = ty ∙ type-is t fixed p in
-    let q = v ∙ mk in
-    n ∙ ap refusalOf (a ∙ (λ i. fieldAnswer (k i) (q i) s))
+    module _ (right : refusalOf (filledBy rule s) ≡ 0) where
+      -- what is left is the mark
+      by-mark : refusalOf (must (meetsMark (rule .mark) s) (Refused 10) (filledBy rule s)) ≡ fieldFault rule s
+      by-mark = go (isNull (rule .type)) right ∙ is-whole
+        where
+          go : (n : Bool) → refusalOf (typed n) ≡ 0 → refusalOf (must (meetsMark (rule .mark) s) (Refused 10) (typed n)) ≡ refusalOf (whole n)
+          go true h = absurd (omega arith)
+          go false h = sym (ap refusalOf (mark-last (rule .type) (rule .mark) s h))
+
+      pub mark-wrong : meetsMark (rule .mark) s ≡ false → 10 ≡ fieldFault rule s
+      mark-wrong h = rw h at by-mark
+
+      pub field-right : meetsMark (rule .mark) s ≡ true → 0 ≡ fieldFault rule s
+      field-right h = sym right ∙ (rw h at by-mark)
 
 -- what is said by the rules from f on of the fields from the place at on
 abbrev leftOf : List ℕ → List ℕ → ℕ → ℕ → ℕ → List ℕ → ℕ → ℕ → Check
@@ -191,7 +199,7 @@ module _ (t fixed : List ℕ) (p n sep key : ℕ) (r : List ℕ) where
       here-is =
           let z : f + 1 + 0 ≡ f + 2 - 1 = omega arith in
           ap (λ (l : List (List ℕ)). getD l 0 []) split ∙ getD-drop (f + 1) (fields sep r) 0 []
-          ∙ ap (λ (k : ℕ). getD (fields sep r) k []) z ∙ by-number sep (f + 2) r (λ q. omega arith)
+          ∙ ap (λ (k : ℕ). getD (fields sep r) k []) z ∙ by-number sep (f + 2) r (omega arith)
 
       module _ {a′ e′ : ℕ} where
         next-found : (b : Bool) → eqb (f + 2) key ≡ b → a′ ≡ cond b i a → e′ ≡ cond b j e → key < f + 1 + 2 → IsPart r a′ e′ (field sep key r)
@@ -250,7 +258,7 @@ module _ (t fixed : List ℕ) (p n sep key : ℕ) (r : List ℕ) where
             let z = w .ahead (omega arith) in
             let past : length (fields sep r) ≤ key - 1 = omega (arith, counted-all, w .upto) in
             rw (z .0, z .1)
-            (none-part r (sym (List·getD-eq-default (fields sep r) [] {n = key - 1} past) ∙ by-number sep key r (λ q. omega arith)))
+            (none-part r (sym (List·getD-eq-default (fields sep r) [] {n = key - 1} past) ∙ by-number sep key r (omega arith)))
 
         pub reading-done : (shapeFault sep (rulesFrom t fixed p n) r ≡ Fine) × IsPart r a e (field sep key r)
         unfolding shapeFault

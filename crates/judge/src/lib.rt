@@ -1,9 +1,9 @@
 // A file judged for a flow: one record against a table and a running state, the loop over a file, and the value of one field.
 use field::FieldType;
-use field::Mark;
 use record::Cursor;
 use record::FieldCursor;
 use record::FieldStep;
+use record::Found;
 use record::Step;
 use text::Order;
 ghost use mathlib.Core.Path.{_≡_};
@@ -17,10 +17,9 @@ ghost use Rattle.text.specs.Rules.{must};
 ghost use Rattle.record.specs.Records.{fields, field as fieldOf, IsPart};
 ghost use Rattle.record.specs.Step.{IsField};
 ghost use Rattle.layout.specs.Layout.{row};
-ghost use Rattle.layout.specs.Numbers.{fixedOf, ruleOf, rulesFrom, layoutOf};
+ghost use Rattle.layout.specs.Numbers.{ruleOf, rulesFrom, layoutOf};
 ghost use Rattle.judge.specs.Fields.{fieldFault};
 ghost use Rattle.field.specs.Numbers.{spelled};
-ghost use Rattle.field.specs.Judge.{marked};
 ghost use Rattle.judge.specs.Record.{kindOf, keyIn, keyType as keyTypeOf, isBelow, placeFault, keyFault, footerFault};
 ghost use Rattle.judge.specs.File.{endsInFeed, ended as endedOf, judgedBy, judged, paper};
 ghost use Rattle.judge.specs.Code.{keyInSlots, ShapeRight, ClosedRight, OutcomeRight, WalkRight};
@@ -84,27 +83,25 @@ pub enum Walk {
     Through(State),
 }
 
-// The bytes of the fixed value of the rule at place p, where its mark needs them.
-fn value_at<'a>(t: &[u32], fixed: &'a [u8], mark: Mark, p: usize) -> &'a [u8]
-    requires { ⌜ p + 2 < length (now t) ⌝ }
-    ensures { λ r. ⌜ marked mark (now r) ≡ marked mark (fixedOf (now (t .entry)) (now (fixed .entry)) p) ⌝ }
-{
-    match mark {
-        Mark::Fixed => layout::fixed_at(t, fixed, p),
-        Mark::Bare => text::part(fixed, 0, 0),
-        Mark::Opt => text::part(fixed, 0, 0),
-    }
-}
-
 // One field by the rule at place p: 7, 8, 9, 10, or 0.
 fn judge_field(t: &[u32], fixed: &[u8], class: &[u8; 256], p: usize, s: &[u8]) -> usize
     requires { ⌜ (p + 2 < length (now t)) × IsClassTable (now class) ⌝ }
     ensures { λ r. ⌜ r ≡ fieldFault (ruleOf (now (t .entry)) (now (fixed .entry)) p) (now (s .entry)) ⌝ }
 {
-    let mark = layout::mark_at(t, p);
-    let value = value_at(t, fixed, mark, p);
-    let kind = layout::type_at(t, p);
-    field::refusal(field::judge_marked(kind, mark, value, class, s)) as usize
+    if s.len() == 0 {
+        if layout::may_be_empty(t, p) {
+            return 0;
+        }
+        return 7;
+    }
+    let number = field::refusal(layout::judge_filled(t, class, p, s)) as usize;
+    if number != 0 {
+        return number;
+    }
+    if !layout::meets_mark(t, fixed, p, s) {
+        return 10;
+    }
+    0
 }
 
 // The field from start up to end where it is the one sought, else what was found before.
@@ -183,34 +180,6 @@ fn judge_fields(
         return wrong_count();
     }
     Shape::Right(found)
-}
-
-// Field k of a record, counted from 1; nothing where there is none.
-fn field_at(sep: u8, r: &[u8], k: usize) -> Span
-    ensures { λ p. ⌜ IsPart (now (r .entry)) (p .from) (p .to) (fieldOf sep k (now (r .entry))) ⌝ }
-{
-    if k == 0 {
-        return Span { from: 0, to: 0 };
-    }
-    let mut c = FieldCursor { at: 0 };
-    let mut left = k - 1;
-    loop {
-        match c.step(sep, r) {
-            FieldStep::Done => {
-                return Span { from: 0, to: 0 };
-            }
-            FieldStep::Field { start, end, next } => {
-                if left == 0 {
-                    return Span {
-                        from: start,
-                        to: end,
-                    };
-                }
-                left -= 1;
-                c = next;
-            }
-        }
-    }
 }
 
 // The kind of a record by its first field, or 0.
@@ -338,10 +307,10 @@ fn check_key(t: &[u32], file: &[u8], slots: &[usize], k: usize, key: &[u8]) -> C
 fn says(sep: u8, r: &[u8], k: usize, v: u64) -> bool
     ensures { λ b. ⌜ b ≡ spelled v (fieldOf sep k (now (r .entry))) ⌝ }
 {
-    let p = field_at(sep, r, k);
-    let a = p.from;
-    let e = p.to;
-    field::spells(&r[a..e], v)
+    let Found::At { start, end } = record::field_at(sep, r, k) else {
+        return false;
+    };
+    field::spells(&r[start..end], v)
 }
 
 // 12 and 13: what a footer says of the records before it.
@@ -443,12 +412,13 @@ pub fn judge_record(
     }
 }
 
-// Kind k was last seen in record n, with its key from a on, len bytes long.
-fn put(slots: &mut [usize; 99], k: usize, n: usize, a: usize, len: usize)
-    requires { ⌜ (k ≤ 32) × (length (now slots) ≡ 99) ⌝ }
-    ensures { λ _. ⌜ now (slots .exit) ≡ set (set (set (now (slots .entry)) (3 * k) n) (3 * k + 1) a) (3 * k + 2) len ⌝ }
+// The last record passed is the last of its kind, with its key from a on, len bytes long.
+fn put(slots: &mut [usize; 99], st: State, a: usize, len: usize)
+    requires { ⌜ (st .last ≤ 32) × (length (now slots) ≡ 99) ⌝ }
+    ensures { λ _. ⌜ now (slots .exit) ≡ set (set (set (now (slots .entry)) (3 * st .last) (st .count)) (3 * st .last + 1) a) (3 * st .last + 2) len ⌝ }
 {
-    slots[3 * k] = n;
+    let k = st.last;
+    slots[3 * k] = st.count;
     slots[3 * k + 1] = a;
     slots[3 * k + 2] = len;
 }
@@ -464,37 +434,27 @@ pub fn judge_records(t: &[u32], fixed: &[u8], class: &[u8; 256], sep: u8, f: &[u
         last: 0,
         sum: 0,
     };
-    let mut c = Cursor { at: 0 };
+    let mut records = Cursor { at: 0 };
     loop {
-        match c.step(f) {
-            Step::Done => {
-                return Walk::Through(st);
+        let Step::Record { start, end, next } = records.step(f) else {
+            return Walk::Through(st);
+        };
+        match judge_record(t, fixed, class, sep, f, &slots, st, &f[start..end]) {
+            Outcome::Stop { number, field } => {
+                return Walk::Stopped {
+                    number: number,
+                    record: st.count + 1,
+                    field: field,
+                };
             }
-            Step::Record { start, end, next } => {
-                match judge_record(t, fixed, class, sep, f, &slots, st, &f[start..end]) {
-                    Outcome::Stop { number, field } => {
-                        return Walk::Stopped {
-                            number: number,
-                            record: st.count + 1,
-                            field: field,
-                        };
-                    }
-                    Outcome::Pass {
-                        next: after,
-                        key_from,
-                        key_to,
-                    } => {
-                        put(
-                            &mut slots,
-                            after.last,
-                            after.count,
-                            start + key_from,
-                            key_to - key_from,
-                        );
-                        st = after;
-                        c = next;
-                    }
-                }
+            Outcome::Pass {
+                next: after,
+                key_from,
+                key_to,
+            } => {
+                put(&mut slots, after, start + key_from, key_to - key_from);
+                st = after;
+                records = next;
             }
         }
     }

@@ -1,13 +1,16 @@
 // A flow as numbers and bytes that are lent, and what is read from them. Nothing is required of a table: any numbers are some layout.
+use field::FieldAnswer;
 use field::FieldType;
 use field::Mark;
 ghost use mathlib.Core.Path.{_≡_};
 ghost use Prim.Native.Nat.{ℕ, _<_, _≤_, _^_, _+_, _-_, min};
 ghost use mathlib.Core.List.{List};
 ghost use lib.ListN.{length};
-ghost use Rattle.field.specs.Judge.{marked};
+ghost use Rattle.text.specs.Characters.{IsClassTable};
+ghost use Rattle.field.specs.Judge.{marked, meetsMark};
 ghost use Rattle.field.specs.Types.{Sound};
 ghost use Rattle.layout.specs.Layout.{row, among as amongOf, mayFollow, kindNamed, isFooter};
+ghost use Rattle.layout.specs.Leaves.{mayBeEmptyBy, filledBy};
 ghost use Rattle.layout.specs.Numbers.{word as wordOf, typeOf, ruleOf, fixedOf, layoutOf, rowWord, rowCount, nameOf, RulesOf};
 
 // The number at i.
@@ -210,4 +213,46 @@ pub fn fixed_at<'a>(t: &[u32], bytes: &'a [u8], p: usize) -> &'a [u8]
 {
     let n = word(t, p + 1) / 4 % 1024;
     text::part(bytes, word(t, p + 2), n)
+}
+
+// An empty field may stand under the rule at p: its type is null, or its mark is opt.
+pub fn may_be_empty(t: &[u32], p: usize) -> bool
+    requires { ⌜ p + 2 < length (now t) ⌝ }
+    ensures { λ r. ⌜ ((bytes : List ℕ) → r ≡ mayBeEmptyBy (ruleOf (now (t .entry)) bytes p)) ⌝ }
+{
+    if word(t, p) % 8 == 7 {
+        return true;
+    }
+    word(t, p + 1) % 4 == 1
+}
+
+// A filled field by the type of the rule at p, its mark aside. The type's number leads straight to its rule: by way of a FieldType
+// each field would cost one more jump.
+pub fn judge_filled(t: &[u32], class: &[u8; 256], p: usize, s: &[u8]) -> FieldAnswer
+    requires { ⌜ (p + 2 < length (now t)) × IsClassTable (now class) ⌝ }
+    ensures { λ r. ⌜ ((bytes : List ℕ) → r ≡ filledBy (ruleOf (now (t .entry)) bytes p) (now (s .entry))) ⌝ }
+{
+    let w = word(t, p);
+    let n = w / 8 % 1024;
+    match w % 8 {
+        0 => field::judge_text(class, s, n),
+        1 => field::judge_int(s, smaller(n, 18)),
+        2 => field::judge_dec(s, smaller(n, 18), w / 8192 % 32),
+        3 => field::judge_date(s),
+        4 => field::judge_datetime(s),
+        5 => field::judge_bol(s),
+        6 => field::judge_period(s),
+        _ => FieldAnswer::Refused(10),
+    }
+}
+
+// A field meets the mark of the rule at p: a fixed value is compared as bytes.
+pub fn meets_mark(t: &[u32], bytes: &[u8], p: usize, s: &[u8]) -> bool
+    requires { ⌜ p + 2 < length (now t) ⌝ }
+    ensures { λ r. ⌜ r ≡ meetsMark (ruleOf (now (t .entry)) (now (bytes .entry)) p .mark) (now (s .entry)) ⌝ }
+{
+    if word(t, p + 1) % 4 != 2 {
+        return true;
+    }
+    text::same_bytes(fixed_at(t, bytes, p), s)
 }

@@ -146,6 +146,10 @@ unfolding fields
 fields-le sep [] = omega arith
 fields-le sep (b ∷ s) = le-go b (suc (length s)) (fields sep s) (eqb b sep) (fields-le sep s)
 
+-- the same part by an equal value
+pub part-as : {s p q : List ℕ} {a e : ℕ} → IsPart s a e p → p ≡ q → IsPart s a e q
+part-as i e = record { ordered = i .ordered; within = i .within; is = i .is ∙ e }
+
 -- a part of what stands from m on is a part of the whole
 pub part-within : (s : List ℕ) (m a e : ℕ) (p : List ℕ) → m ≤ length s → IsPart (drop m s) a e p → IsPart s (m + a) (m + e) p
 part-within s m a e p h i =

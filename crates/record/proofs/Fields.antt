@@ -25,6 +25,13 @@ pub field-number : (sep k : ℕ) (r : List ℕ) → field sep (suc k) r ≡ getD
 unfolding field
 field-number sep k r = refl
 
+-- the same among all fields
+pub by-number : (sep k : ℕ) (r : List ℕ) → 1 ≤ k → getD (fields sep r) (k - 1) [] ≡ field sep k r
+by-number sep zero r h = absurd (omega arith)
+by-number sep (suc k) r h =
+    let z : suc k - 1 ≡ k = omega arith in
+    rw z (sym (field-number sep k r))
+
 -- the first field is the run up to the first separator
 first-go : (sep : ℕ) (r : List ℕ) → Dec (run sep r < length r) → getD (fields sep r) 0 [] ≡ take (run sep r) r
 first-go sep r (yes h) = rw (fields-more sep r h)

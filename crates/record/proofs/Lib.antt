@@ -7,5 +7,6 @@ pub mod Cutting
 pub mod Bars
 pub mod Changes
 pub mod Fields
+pub mod Search
 pub mod Examples
 pub mod Lanes

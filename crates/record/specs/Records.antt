@@ -1,5 +1,5 @@
 -- What a file's records and a record's fields are (document 01, "Bytes, records, fields").
-use Prim.Native.Nat.{ℕ, zero, suc, _-_, _≤_, _<_}
+use Prim.Native.Nat.{ℕ, zero, suc, _+_, _-_, _≤_, _<_}
 use mathlib.Core.Path.{_≡_}
 use mathlib.Core.List.{List, [], _∷_, _++_, map}
 use mathlib.Core.Bool.{Bool, false, cond, _||_}
@@ -34,6 +34,11 @@ run sep (b ∷ s) = cond (eqb b sep) 0 (suc (run sep s))
 -- the fields of a record from the byte at on; none where at is past the record's end
 unfoldable pub fieldsFrom : ℕ → ℕ → List ℕ → List (List ℕ)
 fieldsFrom sep at r = cond (leb at (length r)) (fields sep (drop at r)) []
+
+-- how many bytes some parts take, each with the byte that ends it
+unfoldable pub extent : List (List ℕ) → ℕ
+extent [] = 0
+extent (p ∷ ps) = length p + 1 + extent ps
 
 -- a byte with sep counted as a bar
 unfoldable pub bar : ℕ → ℕ → ℕ

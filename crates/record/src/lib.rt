@@ -7,6 +7,7 @@ ghost use lib.ListN.{length, take, drop, getD};
 ghost use Rattle.record.specs.Records.{run, fields, barred};
 ghost use Rattle.record.specs.Eight.{low};
 ghost use Rattle.record.specs.Step.{Stepped, FieldStepped};
+ghost use Rattle.record.specs.Found.{RecordFound, FieldFound};
 ghost use Rattle.record.specs.Checksum.{word, pieceAt, addRecord, checksumOf};
 
 // Where the first `sep` at or after `at` stands, or the end; a byte at a time, for fields, which are short.
@@ -165,6 +166,68 @@ impl FieldCursor {
             start: at,
             end: end,
             next: FieldCursor { at: end + 1 },
+        }
+    }
+}
+
+// Where a part of some bytes stands, or that there is none.
+pub enum Found {
+    At { start: usize, end: usize },
+    Nothing,
+}
+
+// Record n of a file, counted from 1.
+pub fn record_at(f: &[u8], n: usize) -> Found
+    ensures { λ p. ⌜ RecordFound (now (f .entry)) n p ⌝ }
+{
+    if n == 0 {
+        return Found::Nothing;
+    }
+    let mut c = Cursor { at: 0 };
+    let mut left = n - 1;
+    loop {
+        match c.step(f) {
+            Step::Done => {
+                return Found::Nothing;
+            }
+            Step::Record { start, end, next } => {
+                if left == 0 {
+                    return Found::At {
+                        start: start,
+                        end: end,
+                    };
+                }
+                left -= 1;
+                c = next;
+            }
+        }
+    }
+}
+
+// Field k of a record whose fields are parted by `sep`, counted from 1.
+pub fn field_at(sep: u8, r: &[u8], k: usize) -> Found
+    ensures { λ p. ⌜ FieldFound sep (now (r .entry)) k p ⌝ }
+{
+    if k == 0 {
+        return Found::Nothing;
+    }
+    let mut c = FieldCursor { at: 0 };
+    let mut left = k - 1;
+    loop {
+        match c.step(sep, r) {
+            FieldStep::Done => {
+                return Found::Nothing;
+            }
+            FieldStep::Field { start, end, next } => {
+                if left == 0 {
+                    return Found::At {
+                        start: start,
+                        end: end,
+                    };
+                }
+                left -= 1;
+                c = next;
+            }
         }
     }
 }

@@ -1,24 +1,15 @@
--- What the highest class among some bytes says of them all. Assumes nothing.
-use mathlib.Core.Path.{_≡_, refl, sym, _∙_, ap, ap₂}
-use mathlib.Core.Bool.{Bool, true, false, cond, _&&_, _||_, or-true}
-use mathlib.Core.List.{List, [], _∷_}
-use Prim.Native.Nat.{ℕ, zero, suc, _+_, _≤_, _<_, max}
-use native.Mathlib.Numerals.{add-one}
+-- What the classes of bytes say of them. Assumes nothing.
+use mathlib.Core.Path.{_≡_, refl, sym, _∙_, ap}
+use mathlib.Core.Bool.{Bool, true, false, cond, _&&_, or-true, and-true}
+use mathlib.Core.List.{List}
+use Prim.Native.Nat.{ℕ, zero, suc, _+_, _<_, _≤_}
 use native.Mathlib.Omega.{arith}
+use lib.Bits.{bitOr}
 use lib.Dec.{ltb}
-use lib.ListN.{length, getD, drop, drop-of-length-le}
-use lib.Seq.{drop-cons}
-use borrow.Author.Tests.{lt-ltb, le-ltb, ltb-true, ltb-false}
-use Rattle.text.specs.Characters.{classOf, isText, isDigit, worst, all, from-to, one-of, signs}
-
-module _ (s : List ℕ) (i : ℕ) where
-  pub worst-next : i < length s → worst (drop i s) ≡ max (classOf (getD s i 0)) (worst (drop (i + 1) s))
-  unfolding worst
-  worst-next h = rw (add-one, drop-cons s i 0 h)
-
-  pub worst-end : length s ≤ i → worst (drop i s) ≡ 0
-  unfolding worst
-  worst-end h = rw (drop-of-length-le s h)
+use lib.ListN.{length, getD, drop}
+use Rattle.text.specs.Characters.{all, classOf, isText, isDigit}
+use Rattle.text.proofs.Lists.{all-here, all-end}
+use Rattle.text.proofs.Ors.{or-below, grouped}
 
 -- a byte is a text character where its class is below 2
 text-class : (d t : Bool) → (d ≡ true → t ≡ true) → t ≡ ltb (cond d 0 (cond t 1 2)) 2
@@ -30,16 +21,24 @@ text-is : (b : ℕ) → isText b ≡ ltb (classOf b) 2
 unfolding classOf isText
 text-is b = text-class (isDigit b) (isText b) (λ e. rw (e, or-true))
 
--- two classes are below 2 where the higher one is
-max-below : (m n : ℕ) (a b : Bool) → ltb m 2 ≡ a → ltb n 2 ≡ b → (a && b) ≡ ltb (max m n) 2
-max-below m n true true p q = sym (lt-ltb (max m n) 2 (omega (arith, ltb-true m 2 p, ltb-true n 2 q)))
-max-below m n true false p q = sym (le-ltb (max m n) 2 (omega (arith, ltb-false n 2 q)))
-max-below m n false b p q = sym (le-ltb (max m n) 2 (omega (arith, ltb-false m 2 p)))
+-- what a pass that ors classes knows after i bytes
+abbrev pub Seen : List ℕ → ℕ → ℕ → Type 0
+Seen s seen i = (i ≤ length s) × ((ltb seen 2 && all isText (drop i s)) ≡ all isText s)
 
-pub all-text-is : (s : List ℕ) → all isText s ≡ ltb (worst s) 2
-unfolding worst
-all-text-is [] = refl
-all-text-is (b ∷ s) = max-below (classOf b) (worst s) (isText b) (all isText s) (sym (text-is b)) (sym (all-text-is s))
+seen-class : (seen b : ℕ) → ltb (bitOr seen (classOf b)) 2 ≡ (ltb seen 2 && isText b)
+seen-class seen b = or-below 1 seen (classOf b) (ltb seen 2) (isText b) refl (sym (text-is b))
+
+module _ (s : List ℕ) (seen i : ℕ) (p : Seen s seen i) where
+  pub seen-next : i < length s → Seen s (bitOr seen (classOf (getD s i 0))) (i + 1)
+  seen-next h = (
+    omega arith,
+    ap (λ (t : Bool). t && all isText (drop (i + 1) s)) (seen-class seen (getD s i 0))
+        ∙ grouped (ltb seen 2) (isText (getD s i 0)) (all isText (drop (i + 1) s))
+        ∙ ap (λ (t : Bool). ltb seen 2 && t) (sym (all-here isText s i h)) ∙ p .1,
+  )
+
+  pub seen-end : length s ≤ i → ltb seen 2 ≡ all isText s
+  seen-end h = sym (and-true (ltb seen 2)) ∙ ap (λ (t : Bool). ltb seen 2 && t) (sym (all-end isText s i h)) ∙ p .1
 
 -- how many of the numbers below n pass a test
 unfoldable pub how-many : (ℕ → Bool) → ℕ → ℕ

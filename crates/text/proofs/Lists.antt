@@ -22,6 +22,10 @@ module _ (p : ℕ → Bool) (s : List ℕ) (i : ℕ) where
   pub all-next : i < length s → p (getD s i 0) ≡ true → all p (drop (i + 1) s) ≡ all p (drop i s)
   all-next h e = rw (add-one, drop-cons s i 0 h, e)
 
+  -- its first byte and what follows
+  pub all-here : i < length s → all p (drop i s) ≡ (p (getD s i 0) && all p (drop (i + 1) s))
+  all-here h = rw (add-one, drop-cons s i 0 h)
+
   -- nothing is left at the end
   pub all-end : length s ≤ i → all p (drop i s) ≡ true
   all-end h = rw (drop-of-length-le s h)

@@ -1,5 +1,5 @@
 -- The characters of a field (document 01, "Bytes, records, fields"). Assumes nothing.
-use Prim.Native.Nat.{ℕ, _<_, max}
+use Prim.Native.Nat.{ℕ, _<_}
 use mathlib.Core.Path.{_≡_}
 use mathlib.Core.Bool.{Bool, true, false, cond, _&&_, _||_}
 use mathlib.Core.List.{List, [], _∷_}
@@ -44,11 +44,6 @@ isText b = from-to 65 90 b || from-to 97 122 b || isDigit b || one-of signs b
 unfoldable pub classOf : ℕ → ℕ
 unfolding isDigit isText
 classOf b = cond (isDigit b) 0 (cond (isText b) 1 2)
-
--- the highest class among some bytes
-unfoldable pub worst : List ℕ → ℕ
-worst [] = 0
-worst (b ∷ s) = max (classOf b) (worst s)
 
 -- a table that holds the class of each of the 256 byte values
 abbrev pub IsClassTable : List ℕ → Type 0

@@ -1,8 +1,7 @@
 // The characters of text: their classes, when two texts are the same, and which stands first.
 ghost use mathlib.Core.Path.{_≡_};
-ghost use Prim.Native.Nat.{max};
 ghost use lib.ListN.{take, drop};
-ghost use Rattle.text.specs.Characters.{isDigit, isText, all, worst as worstOf, IsClassTable};
+ghost use Rattle.text.specs.Characters.{isText, all, IsClassTable};
 ghost use Rattle.text.specs.Order.{sameBytes, numberOrder, textOrder};
 
 // How one text or number stands to another.
@@ -279,33 +278,19 @@ pub fn class_table() -> [u8; 256]
     CLASS
 }
 
-fn larger(a: u8, b: u8) -> u8
-    ensures { λ r. ⌜ r ≡ max a b ⌝ }
-{
-    if a < b { b } else { a }
-}
-
-// The highest class among some bytes. One result is tested once, which costs less than a test at each byte.
-pub fn worst(class: &[u8; 256], s: &[u8]) -> u8
-    requires { ⌜ IsClassTable (now class) ⌝ }
-    ensures { λ r. ⌜ r ≡ worstOf (now (s .entry)) ⌝ }
-{
-    let mut w: u8 = 0;
-    let mut i = 0;
-    while i < s.len() {
-        let b = s[i] as usize;
-        w = larger(w, class[b]);
-        i += 1;
-    }
-    w
-}
-
-// Each byte is a text character.
+// Each byte is a text character. Classes are or-ed and tested once, which costs less than a test at each byte.
 pub fn all_text(class: &[u8; 256], s: &[u8]) -> bool
     requires { ⌜ IsClassTable (now class) ⌝ }
     ensures { λ r. ⌜ r ≡ all isText (now (s .entry)) ⌝ }
 {
-    worst(class, s) < 2
+    let mut seen: u8 = 0;
+    let mut i = 0;
+    while i < s.len() {
+        let b = s[i] as usize;
+        seen = seen | class[b];
+        i += 1;
+    }
+    seen < 2
 }
 
 // The same bytes, and as many.

@@ -4,7 +4,7 @@ use mathlib.Core.Path.{_≡_, refl}
 use mathlib.Core.List.{List, [], _∷_, map}
 use lib.IntN.{pos}
 use Rattle.text.specs.Characters.{bytes, isDigit, isText}
-use Rattle.record.specs.Records.{joined, onto, records, fields, field, bar as barOf, barred}
+use Rattle.record.specs.Records.{joined, onto, records, fields, field, extent, bar as barOf, barred}
 use Rattle.record.specs.Checksum.{words, addRecord, checksum}
 use Rattle.field.specs.Numbers.{minus, unsigned, plain, intForm, intValue, decForm, decValue, spelled}
 use Rattle.field.specs.Calendar.{leap, daysIn, isDay, isDate, isTime}
@@ -16,7 +16,7 @@ use Rattle.flow.specs.Flows.{flowNumber}
 use Rattle.judge.specs.Fields.{fieldFault, fieldsFault}
 use Rattle.judge.specs.Record.{lastKind, keyWith, keyBefore, placeFault, shapeFault, keyFault, footerFault, kindFault, fault}
 use Rattle.judge.specs.File.{checkedFrom, ended, judgedBy, verdict}
-use Rattle.value.specs.Value.{isThere, extent, placeOf, fieldValue, valueBy, valueIn, valued, Reply, refused, empty, number, text}
+use Rattle.value.specs.Value.{isThere, placeOf, fieldValue, valueBy, valueIn, valued, Reply, refused, empty, number, text}
 
 -- a record and a field that are asked of a file for P0138001, and what is answered
 pub data Case : Type 0 where

@@ -11,10 +11,10 @@ use lib.Seq.{take-length}
 use borrow.Author.Tests.{leb-true}
 use Rattle.text.specs.Rules.{must}
 use Rattle.text.specs.Characters.{from-to}
-use Rattle.record.specs.Records.{records, fields, field, run, IsPart}
+use Rattle.record.specs.Records.{records, fields, field, run, extent, IsPart}
 use Rattle.record.proofs.Runs.{run-le, records-first, fields-last, fields-more}
-use Rattle.record.proofs.Cutting.{records-le, part-within}
-use Rattle.record.proofs.Fields.{field-number}
+use Rattle.record.proofs.Cutting.{records-le, part-as, part-within}
+use Rattle.record.proofs.Fields.{by-number}
 use Rattle.field.specs.declared.FieldAnswer.{FieldAnswer}
 use Rattle.field.specs.declared.FieldAnswer.the-variants as answers
 use Rattle.layout.specs.Layout.{Layout}
@@ -24,12 +24,12 @@ use Rattle.judge.specs.File.{bar, verdict}
 use Rattle.judge.specs.declared.Verdict.{Verdict}
 use Rattle.judge.specs.declared.Verdict.the-variants as verdicts
 use Rattle.judge.proofs.Files.{inner}
-use Rattle.value.specs.Value.{recordAt, isThere, extent, placeOf, textAt, asValue, answerIn, fieldValue, ofAccepted, valueBy, valueIn, paper, text}
+use Rattle.value.specs.Value.{recordAt, isThere, placeOf, textAt, asValue, answerIn, fieldValue, ofAccepted, valueBy, valueIn, paper, text}
 use Rattle.value.specs.Code.{TextWithin}
 use Rattle.value.specs.declared.Value.{Value}
 use Rattle.value.specs.declared.Value.the-variants.{Refused}
 
--- the same part by equal places, and by an equal value
+-- the same part by equal places
 part-at : {s p : List ℕ} {a e b c : ℕ} → a ≡ b → e ≡ c → IsPart s a e p → IsPart s b c p
 part-at {s} x y i =
     record {
@@ -37,9 +37,6 @@ part-at {s} x y i =
       within = omega (arith, y, i .within);
       is = (λ j. take (sym y j - sym x j) (drop (sym x j) s)) ∙ i .is;
     }
-
-pub part-as : {s p q : List ℕ} {a e : ℕ} → IsPart s a e p → p ≡ q → IsPart s a e q
-part-as i e = record { ordered = i .ordered; within = i .within; is = i .is ∙ e }
 
 -- a part of a part
 part-in-part : {s r p : List ℕ} {a e b c : ℕ} → IsPart s a e r → IsPart r b c p → IsPart s (a + b) (a + c) p
@@ -108,13 +105,6 @@ counted : (n k : ℕ) → from-to 1 n k ≡ true → (1 ≤ k) × (k ≤ n)
 counted n k e =
     let t = both (leb 1 k) (leb k n) e in
     (leb-true 1 k (t .0), leb-true k n (t .1))
-
--- field k among the fields
-pub by-number : (sep k : ℕ) (r : List ℕ) → 1 ≤ k → getD (fields sep r) (k - 1) [] ≡ field sep k r
-by-number sep zero r h = absurd (omega arith)
-by-number sep (suc k) r h =
-    let z : suc k - 1 ≡ k = omega arith in
-    rw z (sym (field-number sep k r))
 
 -- the place of a field that is there holds the field's bytes, within the file
 pub text-lies : (f : List ℕ) (n k : ℕ) → isThere f n k ≡ true

@@ -8,8 +8,10 @@ use lib.ListN.{length, take, drop, List·getD-eq-default}
 use borrow.Author.Tests.{le-leb, lt-leb, eq-eqb, ne-eqb}
 use Rattle.text.specs.Rules.{must}
 use Rattle.text.specs.Characters.{from-to}
-use Rattle.record.specs.Records.{records, fields, field}
+use Rattle.record.specs.Records.{records, fields, field, extent}
+use Rattle.record.specs.Found.{Stands}
 use Rattle.record.proofs.Cursors.{part-length}
+use Rattle.record.proofs.Search.{field-stands}
 use Rattle.field.specs.Judge.{bare, marked, fieldAnswer}
 use Rattle.field.specs.declared.FieldType.{FieldType}
 use Rattle.field.specs.declared.FieldType.the-variants as types
@@ -20,11 +22,10 @@ use Rattle.layout.specs.Numbers.{word, typeOf, fixedOf, ruleOf, layoutOf, Rules
 use Rattle.layout.proofs.FieldRules.{rules-length, rule-at, type-is}
 use Rattle.judge.specs.Record.{kindOf}
 use Rattle.judge.specs.File.{bar}
-use Rattle.value.specs.Value.{recordAt, isThere, extent, placeOf, ruleFor, byRule, asValue, fieldValue, valueBy}
-use Rattle.value.specs.Code.{Stands, Placed}
+use Rattle.value.specs.Value.{recordAt, isThere, placeOf, ruleFor, byRule, asValue, fieldValue, valueBy}
+use Rattle.value.specs.Code.{Placed}
 use Rattle.value.specs.declared.Value.{Value}
 use Rattle.value.specs.declared.Value.the-variants.{Refused, Text}
-use Rattle.value.proofs.Places.{by-number}
 
 -- field k of a record of kind j, whose m rules stand at p
 module _ (t fixed : List ℕ) (j p m : ℕ) (rules : RulesOf t fixed j p m) (k : ℕ) (s : List ℕ) where
@@ -88,7 +89,7 @@ module _ (l : Layout) (f : List ℕ) (n k : ℕ) where
       s = take (e - a) (drop a r)
 
       bytes-are : s ≡ field bar k (recordAt f n)
-      bytes-are = y .is .is ∙ by-number bar k r (y .least) ∙ ap (field bar k) (x .is .is)
+      bytes-are = field-stands bar k r y .is ∙ ap (field bar k) (x .is .is)
 
       pub placed : Placed f n k (start + a) (start + e)
       unfolding placeOf

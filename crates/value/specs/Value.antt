@@ -1,13 +1,13 @@
 -- The value of one field of a file (document 01, "Bytes, records, fields" and refusal 18). Assumes nothing.
 use Prim.Native.Nat.{ℕ, _+_, _-_}
 use mathlib.Core.Bool.{Bool, cond, _&&_}
-use mathlib.Core.List.{List, [], _∷_}
+use mathlib.Core.List.{List, []}
 use lib.Dec.{eqb}
 use lib.IntN.{ℤ}
 use lib.ListN.{length, getD, take, drop}
 use Rattle.text.specs.Rules.{must}
 use Rattle.text.specs.Characters.{from-to}
-use Rattle.record.specs.Records.{records, fields, field}
+use Rattle.record.specs.Records.{records, fields, field, extent}
 use Rattle.field.specs.Judge.{bare, fieldAnswer}
 use Rattle.field.specs.declared.FieldAnswer.{FieldAnswer}
 use Rattle.field.specs.declared.FieldAnswer.the-variants as answers
@@ -29,11 +29,6 @@ recordAt f n = getD (records f) (n - 1) []
 -- there is a record n with a field k, both counted from 1
 unfoldable pub isThere : List ℕ → ℕ → ℕ → Bool
 isThere f n k = from-to 1 (length (records f)) n && from-to 1 (length (fields bar (recordAt f n))) k
-
--- how many bytes some parts take, each with the byte that ends it
-unfoldable pub extent : List (List ℕ) → ℕ
-extent [] = 0
-extent (p ∷ ps) = length p + 1 + extent ps
 
 -- where field k of record n starts in the file: behind the records before, and the fields before it
 unfoldable pub placeOf : List ℕ → ℕ → ℕ → ℕ

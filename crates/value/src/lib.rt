@@ -3,16 +3,13 @@ use field::FieldAnswer;
 use field::FieldType;
 use field::Mark;
 use judge::Verdict;
-use record::Cursor;
-use record::FieldCursor;
-use record::FieldStep;
-use record::Step;
+use record::Found;
 ghost use mathlib.Core.Path.{_≡_};
 ghost use mathlib.Core.List.{List};
 ghost use Prim.Native.Nat.{ℕ, _≤_};
 ghost use Rattle.layout.specs.Numbers.{layoutOf};
 ghost use Rattle.value.specs.Value.{ruleFor, byRule, asValue, valueBy, valued, paper};
-ghost use Rattle.value.specs.Code.{RecordFound, FieldFound, Placed, TextWithin};
+ghost use Rattle.value.specs.Code.{Placed, TextWithin};
 
 // A refusal with number, record and field; or a value. A text's value is where its bytes start and end in the file.
 pub enum Value {
@@ -28,68 +25,6 @@ pub enum Value {
         from: usize,
         to: usize,
     },
-}
-
-// Where a record or a field starts and ends; or there is none.
-pub enum Found {
-    At { start: usize, end: usize },
-    Nothing,
-}
-
-// Record n of a file, counted from 1.
-fn record_at(f: &[u8], n: usize) -> Found
-    ensures { λ r. ⌜ RecordFound (now (f .entry)) n r ⌝ }
-{
-    if n == 0 {
-        return Found::Nothing;
-    }
-    let mut c = Cursor { at: 0 };
-    let mut left = n - 1;
-    loop {
-        match c.step(f) {
-            Step::Done => {
-                return Found::Nothing;
-            }
-            Step::Record { start, end, next } => {
-                if left == 0 {
-                    return Found::At {
-                        start: start,
-                        end: end,
-                    };
-                }
-                left -= 1;
-                c = next;
-            }
-        }
-    }
-}
-
-// Field k of a record, counted from 1.
-fn field_at(r: &[u8], k: usize) -> Found
-    ensures { λ p. ⌜ FieldFound (now (r .entry)) k p ⌝ }
-{
-    if k == 0 {
-        return Found::Nothing;
-    }
-    let mut c = FieldCursor { at: 0 };
-    let mut left = k - 1;
-    loop {
-        match c.step(b'|', r) {
-            FieldStep::Done => {
-                return Found::Nothing;
-            }
-            FieldStep::Field { start, end, next } => {
-                if left == 0 {
-                    return Found::At {
-                        start: start,
-                        end: end,
-                    };
-                }
-                left -= 1;
-                c = next;
-            }
-        }
-    }
 }
 
 // Field k, past the kind, of a record of kind j, by its rule.
@@ -130,7 +65,7 @@ fn as_value(a: FieldAnswer, n: usize, k: usize, from: usize, to: usize) -> Value
 fn value_by(t: &[u32], fixed: &[u8], f: &[u8], n: usize, k: usize) -> Value
     ensures { λ v. ⌜ v ≡ valueBy (layoutOf (now (t .entry)) (now (fixed .entry))) (now (f .entry)) n k ⌝ }
 {
-    let Found::At { start, end } = record_at(f, n) else {
+    let Found::At { start, end } = record::record_at(f, n) else {
         return Value::Refused {
             number: 18,
             record: n,
@@ -138,7 +73,7 @@ fn value_by(t: &[u32], fixed: &[u8], f: &[u8], n: usize, k: usize) -> Value
         };
     };
     let r = &f[start..end];
-    let Found::At { start: a, end: e } = field_at(r, k) else {
+    let Found::At { start: a, end: e } = record::field_at(b'|', r, k) else {
         return Value::Refused {
             number: 18,
             record: n,

@@ -15,15 +15,15 @@ use Rattle.judge.proofs.judge_records.Statement.{statement}
 use Rattle.judge.proofs.judge_records.Tie as tie
 
 abbrev Inv-loop : tie.InvT-loop
-Inv-loop t fixed class sep f slots₀ st₀ c₀ slots st c = Kept sep (layoutOf t fixed) f st slots (c .at)
+Inv-loop t fixed class sep f slots₀ st₀ records₀ slots st records = Kept sep (layoutOf t fixed) f st slots (records .at)
 
 abbrev μ-loop : tie.MeasureT-loop
-μ-loop t fixed class sep f slots₀ st₀ c₀ slots st c = length f - c .at
+μ-loop t fixed class sep f slots₀ st₀ records₀ slots st records = length f - records .at
 
 -- what the step says of the record that it found
 stepped : (c : tie.After-known-told Inv-loop μ-loop)
     → let g = c .before .start .given .0 in
-    IsRecord (now (c .before .before .before .before .before .before .before .before .args .f)) (c .before .before .before .before .loop .c .at) (g .0) (g .1 .0) (g .1 .1 .0 .at)
+    IsRecord (now (c .before .before .before .before .before .before .before .before .args .f)) (c .before .before .before .before .loop .records .at) (g .0) (g .1 .0) (g .1 .1 .0 .at)
 stepped c = rw (c .before .start .given .1) at (c .before .before .before .step .ensures)
 
 -- the bytes of that record
@@ -48,7 +48,7 @@ small c =
     let l = c .before .before .before .before .before .before .before .before .before .before .loop in
     let a = c .before .before .before .before .before .before .before .before .before .before .before .before .before .before .args in
     let o = c .before .after .given .0 in
-    kind-small (a .sep) (layoutOf (now (a .t)) (now (a .fixed))) (now (a .f)) (l .st) (l .slots) (l .c .at) (l .inv)
+    kind-small (a .sep) (layoutOf (now (a .t)) (now (a .fixed))) (now (a .f)) (l .st) (l .slots) (l .records .at) (l .inv)
     (found (c .before .before .before .before .before .before)) _ (s .splits) (s .onward) (s .next-within) (o .0) (o .1 .0) (o .1 .1 .0) (passed c) (kind-most _ _ _)
 
 -- what is kept with it
@@ -64,7 +64,7 @@ after c =
     let o = c .before .after .given .0 in
     let a = c .before .before .before .before .before .before .before .before .before .before .before .before .before .before .args in
     let l = c .before .before .before .before .before .before .before .before .before .before .loop in
-    kept-next (a .sep) (layoutOf (now (a .t)) (now (a .fixed))) (now (a .f)) (l .st) (l .slots) (l .c .at) (l .inv)
+    kept-next (a .sep) (layoutOf (now (a .t)) (now (a .fixed))) (now (a .f)) (l .st) (l .slots) (l .records .at) (l .inv)
     (found (c .before .before .before .before .before .before)) _ (s .splits) (s .onward) (s .next-within) (o .0) (o .1 .0) (o .1 .1 .0) (passed c) (kind-most _ _ _)
     (g .0 + o .1 .0) (o .1 .1 .0 - o .1 .0) (inner (now (a .f)) (g .0) (g .1 .0) (o .1 .0) (o .1 .1 .0) _ (passed c .key))
 
@@ -74,6 +74,9 @@ loop-holds c = kept-none _ _ _
 step-requires : tie.Need-step-requires Inv-loop μ-loop
 step-requires c κs = search needs
 
+enum-known-start : tie.Need-enum-known-start Inv-loop μ-loop
+enum-known-start c = search needs
+
 enum-told : tie.Need-enum-told Inv-loop μ-loop
 enum-told c = search needs
 
@@ -81,11 +84,8 @@ returns : tie.Need-returns Inv-loop μ-loop
 returns c =
     let l = c .before .before .before .loop in
     let a = c .before .before .before .before .before .before .before .args in
-    kept-done (a .sep) (layoutOf (now (a .t)) (now (a .fixed))) (now (a .f)) (l .st) (l .slots) (l .c .at) (l .inv)
+    kept-done (a .sep) (layoutOf (now (a .t)) (now (a .fixed))) (now (a .f)) (l .st) (l .slots) (l .records .at) (l .inv)
     (rw (c .enum-told .given .1) at (c .before .before .step .ensures))
-
-enum-known-start : tie.Need-enum-known-start Inv-loop μ-loop
-enum-known-start c = search needs
 
 slice-aggregate-judge-record : tie.Need-slice-aggregate-judge-record Inv-loop μ-loop
 slice-aggregate-judge-record c = search needs
@@ -117,7 +117,7 @@ returns-2 c =
     let l = c .before .before .before .before .before .before .before .before .before .before .before .loop in
     let a = c .before .before .before .before .before .before .before .before .before .before .before .before .before .before .before .args in
     let q = c .before .before .number .given in
-    kept-stop (a .sep) (layoutOf (now (a .t)) (now (a .fixed))) (now (a .f)) (l .st) (l .slots) (l .c .at) (l .inv)
+    kept-stop (a .sep) (layoutOf (now (a .t)) (now (a .fixed))) (now (a .f)) (l .st) (l .slots) (l .records .at) (l .inv)
     (found (c .before .before .before .before .before .before .before)) _ (stepped (c .before .before .before .before .before .before .before) .splits) (q .0 .0) (q .0 .1 .0)
     (rw (q .1) at (c .before .before .before .before .judge-record .ensures))
 
@@ -153,9 +153,9 @@ judge-records-spec =
     μ-loop
     loop-holds
     step-requires
+    enum-known-start
     enum-told
     returns
-    enum-known-start
     slice-aggregate-judge-record
     sub-judge-record
     part-judge-record-start

@@ -1,9 +1,13 @@
 -- The type's code is the lowest octal digit, and the widths of numbers are clipped. Assumes nothing.
-use mathlib.Core.Path.{sym}
+use mathlib.Core.Path.{sym, _∙_, ap}
+use Prim.Native.Nat.{ℕ, _/_, _%_}
+use native.Mathlib.Nat.{mod-lt}
 use native.Mathlib.Omega.{arith}
-use borrow.Author.Tests.{ne-eqb}
-use Rattle.layout.specs.Numbers.{typeOf}
+use lib.Dec.{lit<}
 use borrow.Author.Needs.{needs}
+use denote.Ref.{now}
+use Rattle.field.specs.declared.FieldType.the-variants as types
+use Rattle.layout.proofs.FieldRules.{type-text, type-int, type-dec, type-date, type-datetime, type-bol, type-period, type-null, only-seven}
 use Rattle.layout.proofs.type_at.Statement.{statement}
 use Rattle.layout.proofs.type_at.Tie as tie
 
@@ -17,64 +21,58 @@ smaller-requires-2 : tie.Need-smaller-requires-2
 smaller-requires-2 c κs = search needs
 
 returns : tie.Need-returns
-unfolding typeOf
 returns c =
-    let e = c .before .word .ensures .0 in
-    (rw (sym e) (simp (c .match .keys1)), tt)
+    let a = c .before .before .before .args in
+    let w = c .before .word in
+    (type-text (now (a .t)) (a .p) (w .result) (w .ensures .0) (c .match .keys1), tt)
 
 returns-2 : tie.Need-returns-2
-unfolding typeOf
 returns-2 c =
-    let e = c .before .before .word .ensures .0 in
-    (rw (sym e) (simp (c .before .match .keys2, c .smaller .ensures)), omega arith)
+    let a = c .before .before .before .before .args in
+    let w = c .before .before .word in (
+      ap (λ (n : ℕ). types.Int n) (c .smaller .ensures) ∙ type-int (now (a .t)) (a .p) (w .result) (w .ensures .0) (c .before .match .keys2),
+      omega arith,
+    )
 
 returns-3 : tie.Need-returns-3
-unfolding typeOf
 returns-3 c =
-    let e = c .before .before .word .ensures .0 in
-    (rw (sym e) (simp (c .before .match .keys3, c .smaller2 .ensures)), omega arith)
+    let a = c .before .before .before .before .args in
+    let w = c .before .before .word in (
+      ap (λ (n : ℕ). types.Dec n (w .result / 8192 % 32)) (c .smaller2 .ensures) ∙ type-dec (now (a .t)) (a .p) (w .result) (w .ensures .0) (c .before .match .keys3),
+      omega arith,
+    )
 
 returns-4 : tie.Need-returns-4
-unfolding typeOf
 returns-4 c =
-    let e = c .before .word .ensures .0 in
-    (rw (sym e) (simp (c .match .keys4)), tt)
+    let a = c .before .before .before .args in
+    let w = c .before .word in
+    (type-date (now (a .t)) (a .p) (w .result) (w .ensures .0) (c .match .keys4), tt)
 
 returns-5 : tie.Need-returns-5
-unfolding typeOf
 returns-5 c =
-    let e = c .before .word .ensures .0 in
-    (rw (sym e) (simp (c .match .keys5)), tt)
+    let a = c .before .before .before .args in
+    let w = c .before .word in
+    (type-datetime (now (a .t)) (a .p) (w .result) (w .ensures .0) (c .match .keys5), tt)
 
 returns-6 : tie.Need-returns-6
-unfolding typeOf
 returns-6 c =
-    let e = c .before .word .ensures .0 in
-    (rw (sym e) (simp (c .match .keys6)), tt)
+    let a = c .before .before .before .args in
+    let w = c .before .word in
+    (type-bol (now (a .t)) (a .p) (w .result) (w .ensures .0) (c .match .keys6), tt)
 
 returns-7 : tie.Need-returns-7
-unfolding typeOf
 returns-7 c =
-    let e = c .before .word .ensures .0 in
-    (rw (sym e) (simp (c .match .keys7)), tt)
+    let a = c .before .before .before .args in
+    let w = c .before .word in
+    (type-period (now (a .t)) (a .p) (w .result) (w .ensures .0) (c .match .keys7), tt)
 
 returns-8 : tie.Need-returns-8
-unfolding typeOf
 returns-8 c =
-    let e = c .before .word .ensures .0 in
-    let k = c .match .rest in (
-      rw (sym e)
-          (simp (
-            ne-eqb _ _ (k .1),
-            ne-eqb _ _ (k .0 .1),
-            ne-eqb _ _ (k .0 .0 .1),
-            ne-eqb _ _ (k .0 .0 .0 .1),
-            ne-eqb _ _ (k .0 .0 .0 .0 .1),
-            ne-eqb _ _ (k .0 .0 .0 .0 .0 .1),
-            ne-eqb _ _ (k .0 .0 .0 .0 .0 .0 .1),
-          )),
-      tt,
-    )
+    let a = c .before .before .before .args in
+    let w = c .before .word in
+    let k = c .match .rest in
+    let seven = only-seven (w .result % 8) (mod-lt (w .result) {m = 8} (lit< tt)) (k .0 .0 .0 .0 .0 .0 .1) (k .0 .0 .0 .0 .0 .1) (k .0 .0 .0 .0 .1) (k .0 .0 .0 .1) (k .0 .0 .1) (k .0 .1) (k .1) in
+    (type-null (now (a .t)) (a .p) (w .result) (w .ensures .0) seven, tt)
 
 pub type-at-spec : {M : Type 1} → statement M
 type-at-spec =

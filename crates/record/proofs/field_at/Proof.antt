@@ -1,23 +1,22 @@
 -- `field_at` is right: the fields passed and those from the cursor on are all fields, and so many are left to pass.
 use borrow.Author.Needs.{needs}
 use denote.Ref.{now}
 use Rattle.record.specs.Records.{fields, fieldsFrom}
 use Rattle.record.specs.Step.{IsField}
-use Rattle.judge.specs.File.{bar}
-use Rattle.value.proofs.Search.{Sought, first-field, zero-asked, no-field-left, field-here, field-later}
-use Rattle.value.proofs.field_at.Statement.{statement}
-use Rattle.value.proofs.field_at.Tie as tie
+use Rattle.record.proofs.Search.{Sought, first-field, zero-asked, no-field-left, field-here, field-later}
+use Rattle.record.proofs.field_at.Statement.{statement}
+use Rattle.record.proofs.field_at.Tie as tie
 
 abbrev Inv-loop : tie.InvT-loop
-Inv-loop r k c₀ left₀ c left = Sought (fields bar r) (fieldsFrom bar (c .at) r) k (c .at) left
+Inv-loop sep r k c₀ left₀ c left = Sought (fields sep r) (fieldsFrom sep (c .at) r) k (c .at) left
 
 abbrev μ-loop : tie.MeasureT-loop
-μ-loop r k c₀ left₀ c left = left
+μ-loop sep r k c₀ left₀ c left = left
 
 returns : tie.Need-returns Inv-loop μ-loop
 returns c =
     let a = c .before .before .args in
-    zero-asked (fields bar (now (a .r))) (a .k) (c .if1 .taken)
+    zero-asked (fields (a .sep) (now (a .r))) (a .k) (c .if1 .taken)
 
 sub-left : tie.Need-sub-left Inv-loop μ-loop
 sub-left c = search needs
@@ -25,7 +24,7 @@ sub-left c = search needs
 loop-holds : tie.Need-loop-holds Inv-loop μ-loop
 loop-holds c =
     let a = c .before .before .args in
-    first-field bar (now (a .r)) (a .k) (c .if1 .left)
+    first-field (a .sep) (now (a .r)) (a .k) (c .if1 .left)
 
 step-requires : tie.Need-step-requires Inv-loop μ-loop
 step-requires c κs = search needs
@@ -37,7 +36,7 @@ returns-2 : tie.Need-returns-2 Inv-loop μ-loop
 returns-2 c =
     let a = c .before .before .before .before .before .before .args in
     let past = rw (c .enum-told .given .1) at (c .before .before .step .ensures) in
-    no-field-left bar (now (a .r)) (c .before .before .before .loop .inv) past
+    no-field-left (a .sep) (now (a .r)) (c .before .before .before .loop .inv) past
 
 enum-known-start : tie.Need-enum-known-start Inv-loop μ-loop
 enum-known-start c = search needs
@@ -46,14 +45,14 @@ enum-known-start c = search needs
 stepped : (c : tie.After-known-told Inv-loop μ-loop) →
     let g = c .before .start .given .0 in
     let a = c .before .before .before .before .before .before .before .args in
-    IsField bar (now (a .r)) (c .before .before .before .before .loop .c .at) (g .0) (g .1 .0) (g .1 .1 .0 .at)
+    IsField (a .sep) (now (a .r)) (c .before .before .before .before .loop .c .at) (g .0) (g .1 .0) (g .1 .1 .0 .at)
 stepped c = rw (c .before .start .given .1) at (c .before .before .before .step .ensures)
 
 returns-3 : tie.Need-returns-3 Inv-loop μ-loop
 returns-3 c =
     let a = c .before .before .before .before .before .before .before .before .args in
     let l = c .before .before .before .before .before .loop in
-    field-here bar (now (a .r)) (l .inv) (stepped (c .before)) (c .if2 .taken)
+    field-here (a .sep) (now (a .r)) (l .inv) (stepped (c .before)) (c .if2 .taken)
 
 sub-left-2 : tie.Need-sub-left-2 Inv-loop μ-loop
 sub-left-2 c = search needs
@@ -65,7 +64,7 @@ loop-again : tie.Need-loop-again Inv-loop μ-loop
 loop-again c =
     let a = c .before .before .before .before .before .before .before .before .args in
     let l = c .before .before .before .before .before .loop in
-    field-later bar (now (a .r)) (l .inv) (stepped (c .before)) (c .if2 .left)
+    field-later (a .sep) (now (a .r)) (l .inv) (stepped (c .before)) (c .if2 .left)
 
 pub field-at-spec : {M : Type 1} → statement M
 field-at-spec =

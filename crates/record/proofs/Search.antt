@@ -1,19 +1,21 @@
--- The search for a part by its number, as the code's two loops go: what is kept, and what it comes to. Assumes nothing.
+-- The search for a part by its number: what the code's two loops keep, what it comes to, and that it has one answer.
 use Prim.Native.Nat.{ℕ, _+_, _-_, _≤_, _<_}
 use mathlib.Core.Path.{_≡_, refl, sym, ap, _∙_}
 use mathlib.Core.List.{List, [], _∷_, _++_}
 use native.Mathlib.Decide.{decLt}
 use native.Mathlib.Omega.{arith}
-use lib.ListN.{length, take, drop, getD, length-append}
+use lib.ListN.{length, take, drop, getD, length-append, List·getD-eq-default}
 use lib.Seq.{append-snoc, take-at, getD-at}
-use Rattle.record.specs.Records.{records, fields, fieldsFrom, IsPart}
+use Rattle.record.specs.Records.{records, fields, fieldsFrom, field, extent, IsPart}
 use Rattle.record.specs.Step.{IsRecord, IsField}
+use Rattle.record.specs.Found.{Stands, PartFound, FieldFound}
+use Rattle.record.specs.declared.Found.{Found}
+use Rattle.record.specs.declared.Found.the-variants.{At, Nothing}
 use Rattle.record.proofs.Cursors.{records-end, from-past, part-length}
-use Rattle.record.proofs.Fields.{from-start}
-use Rattle.value.specs.Value.{extent}
-use Rattle.value.specs.Code.{Stands}
-use Rattle.value.proofs.Places.{part-as}
+use Rattle.record.proofs.Cutting.{part-as}
+use Rattle.record.proofs.Fields.{from-start, by-number}
 
+-- the extent with one part more
 extent-snoc : (ps : List (List ℕ)) (p : List ℕ) → extent (ps ++ p ∷ []) ≡ extent ps + (length p + 1)
 unfolding extent
 extent-snoc [] p = omega arith
@@ -26,6 +28,7 @@ pub record Sought (all rest : List (List ℕ)) (n at left : ℕ) : Type 0 where
   pub counted : length before + left + 1 ≡ n
   pub place : 0 < length rest → at ≡ extent before
 
+-- before the first part; and part 0 is asked
 pub at-start : (all rest : List (List ℕ)) (n : ℕ) → rest ≡ all → (n ≡ 0 → ⊥) → Sought all rest n 0 (n - 1)
 unfolding extent
 at-start all rest n e h = record { before = []; every = e; counted = omega arith; place = λ _. refl }
@@ -104,3 +107,33 @@ module _ (sep : ℕ) (r : List ℕ) where
       field-later z =
           sought-later x (y .splits) z
           (λ _. omega (arith, y .past, y .starts, y .ordered, part-length r a e (y .ordered) (y .within)))
+
+-- field k where the search found it; where it found nothing the field has no bytes
+module _ (sep k : ℕ) (r : List ℕ) where
+  pub field-stands : {a e : ℕ} → FieldFound sep r k (At a e) → IsPart r a e (field sep k r)
+  field-stands x = part-as (x .is) (by-number sep k r (x .least))
+
+  absent-go : Dec (0 < k) → FieldFound sep r k Nothing → field sep k r ≡ []
+  unfolding field
+  absent-go (yes l) h = sym (by-number sep k r l) ∙ List·getD-eq-default (fields sep r) [] {n = k - 1} (omega (arith, h l))
+  absent-go (no l) h =
+      let z : k ≡ 0 = omega arith in
+      rw z
+
+  pub field-absent : FieldFound sep r k Nothing → field sep k r ≡ []
+  field-absent = absent-go (decLt 0 k)
+
+-- two answers that meet the promise are one
+module _ (ps : List (List ℕ)) (s : List ℕ) (n : ℕ) where
+  stands-end : {a e : ℕ} → Stands ps s n a e → e ≡ extent (take (n - 1) ps) + length (getD ps (n - 1) [])
+  stands-end {a} {e} x =
+      omega (arith, x .starts, x .is .ordered, ap length (x .is .is), part-length s a e (x .is .ordered) (x .is .within))
+
+  not-both : {a e : ℕ} → Stands ps s n a e → (1 ≤ n → length ps < n) → ⊥
+  not-both x h = omega (arith, x .least, x .most, h (x .least))
+
+  pub one-found : (x y : Found) → PartFound ps s n x → PartFound ps s n y → x ≡ y
+  one-found (At a e) (At b c) p q = λ i. At ((p .starts ∙ sym (q .starts)) i) ((stands-end p ∙ sym (stands-end q)) i)
+  one-found (At a e) Nothing p q = absurd (not-both p q)
+  one-found Nothing (At b c) p q = absurd (not-both q p)
+  one-found Nothing Nothing p q = refl

@@ -3,11 +3,11 @@ use borrow.Author.Needs.{needs}
 use mathlib.Core.Path.{refl}
 use lib.ListN.{drop}
 use denote.Ref.{now}
 use Rattle.record.specs.Records.{records}
 use Rattle.record.specs.Step.{IsRecord}
-use Rattle.value.proofs.Search.{Sought, at-start, zero-asked, none-left, record-here, record-later}
-use Rattle.value.proofs.record_at.Statement.{statement}
-use Rattle.value.proofs.record_at.Tie as tie
+use Rattle.record.proofs.Search.{Sought, at-start, zero-asked, none-left, record-here, record-later}
+use Rattle.record.proofs.record_at.Statement.{statement}
+use Rattle.record.proofs.record_at.Tie as tie
 
 abbrev Inv-loop : tie.InvT-loop
 Inv-loop f n c₀ left₀ c left = Sought (records f) (records (drop (c .at) f)) n (c .at) left
