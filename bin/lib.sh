@@ -36,6 +36,12 @@ build_program() { # NAME
     [ -x "target/bin/$1" ] || die "rt left no target/bin/$1: remove target/ and try again"
 }
 
+# Builds the second program, where it is not built or older than its sources.
+second=second/target/release/second
+build_second() {
+    cargo build --quiet --release --offline --manifest-path second/Cargo.toml --target-dir second/target || die "the second program was not built"
+}
+
 # Runs a built program. Programs are for x86-64 and run under the kit's own loader and C library; on
 # another processor the kit has an emulator beside its compiler, which takes no setting from outside.
 run_program() { # PATH [ARGUMENT...]

@@ -79,6 +79,6 @@ fn row_of(name: &str, counts: &[usize]) -> String {
 }
 
 fn row<'a>(name: &str, words: impl Iterator<Item = &'a str>, all: &str) -> String {
-    let words: String = words.map(|word| format!("{:>7}", word)).collect();
+    let words: String = words.map(|word| format!("{:>8}", word)).collect();
     format!("{:<6}{}{:>9}\n", name, words, all)
 }

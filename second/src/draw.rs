@@ -1,6 +1,6 @@
 //! A flow's grammar drawn as nested sets: an SVG picture.
 
-use crate::field::{Mark, Type};
+use crate::field::Mark;
 use crate::flows::{Flow, Layout, Rule};
 use crate::grammar::{Kind, Set};
 use std::fmt::Write;
@@ -112,16 +112,7 @@ fn fields(layout: &Layout) -> String {
 }
 
 fn spelled(rule: &Rule) -> String {
-    let form = match rule.form {
-        Type::Text(n) => format!("text({})", n),
-        Type::Int(n) => format!("int({})", n),
-        Type::Dec(p, q) => format!("dec({},{})", p, q),
-        Type::Date => "date".to_string(),
-        Type::DateTime => "datetime".to_string(),
-        Type::Bol => "bol".to_string(),
-        Type::Period => "period".to_string(),
-        Type::Null => "null".to_string(),
-    };
+    let form = rule.form.spelling();
     match &rule.mark {
         Mark::None => form,
         Mark::Opt => format!("{} opt", form),

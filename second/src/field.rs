@@ -80,6 +80,20 @@ impl Type {
         }
     }
 
+    /// The type as document 01 spells it.
+    pub fn spelling(self) -> String {
+        match self {
+            Type::Text(n) => format!("text({})", n),
+            Type::Int(n) => format!("int({})", n),
+            Type::Dec(p, q) => format!("dec({},{})", p, q),
+            Type::Date => "date".to_string(),
+            Type::DateTime => "datetime".to_string(),
+            Type::Bol => "bol".to_string(),
+            Type::Period => "period".to_string(),
+            Type::Null => "null".to_string(),
+        }
+    }
+
     /// Whether the width is one that document 01 takes.
     pub fn is_held(self) -> bool {
         match self {

@@ -14,16 +14,17 @@ use Rattle.text.specs.Characters.{all, isDigit, from-to}
 use Rattle.text.specs.Order.{numberOrder, textOrder, else}
 use Rattle.text.specs.declared.Order.{Order}
 use Rattle.text.proofs.Orders.{number-below, number-above}
-use Rattle.field.specs.Numbers.{number, numberFrom, minus, unsigned, plain, isZero, whole, places, pointed, intValue, decForm, decValue}
+use Rattle.number.specs.Numbers.{number, numberFrom, minus, unsigned, plain, isZero, whole, places, pointed, intValue, decForm, decValue}
 use Rattle.field.specs.Types.{form, range, valueOf, bolForm, periodRange}
 use Rattle.field.specs.Judge.{paper}
-use Rattle.field.specs.Keys.{digitsOrder, wholeOrder, keyOrder, valueOrder}
+use Rattle.number.specs.Order.{digitsOrder, wholeOrder, valueOrder}
+use Rattle.field.specs.Keys.{keyOrder}
 use Rattle.field.specs.declared.FieldType.{FieldType}
 use Rattle.field.specs.declared.FieldType.the-variants as types
 use Rattle.field.specs.declared.FieldAnswer.the-variants.{Number}
-use Rattle.field.proofs.Digits.{and-left, and-right, all-append, digit-low, grows, plain-digits, number-append}
-use Rattle.field.proofs.ByValue.{Stand, below, equal, above, stand, number-same, else-else, as-long, as-many, fewer, bare-is, signed-by-value, by-value, dates-by-value}
-use Rattle.field.proofs.Spelling.{whole-same, value-same}
+use Rattle.number.proofs.Digits.{and-left, and-right, all-append, digit-low, grows, plain-digits, number-append}
+use Rattle.number.proofs.ByValue.{Stand, below, equal, above, stand, number-same, else-else, as-long, as-many, fewer, bare-is, signed-by-value, by-value, dates-by-value}
+use Rattle.number.proofs.Spelling.{whole-same, value-same}
 
 -- two texts that begin with as many bytes: these decide, else what follows
 text-append : (a b x y : List ℕ) → length a ≡ length b → textOrder (a ++ x) (b ++ y) ≡ else (textOrder a b) (textOrder x y)

@@ -5,8 +5,8 @@ use mathlib.Core.List.{List, [], _∷_}
 use Prim.Native.String.{String}
 use lib.IntN.{pos, negℤ}
 use Rattle.text.specs.Characters.{bytes, isDigit, isText}
-use Rattle.field.specs.Numbers.{minus, unsigned, plain, intForm, intValue, decForm, decValue}
-use Rattle.field.specs.Calendar.{leap, daysIn, isDay, isDate, isTime}
+use Rattle.number.specs.Numbers.{minus, unsigned, plain, intForm, intValue, decForm, decValue}
+use Rattle.number.specs.Calendar.{leap, daysIn, isDay, isDate, isTime}
 use Rattle.field.specs.Types.{textForm, bolForm, periodRange, form, range, valueOf, widthRight}
 use Rattle.field.specs.Judge.{Marked, bare, opt, fixed, filled, fieldAnswer, judgedAs, fieldJudged, Reply, refused, empty, number, truth, text}
 use Rattle.field.specs.declared.FieldType.{FieldType}

@@ -11,17 +11,18 @@ use lib.Seq.{length-take-le}
 use borrow.Author.Tests.{ltb-true, leb-true, le-leb, lt-leb}
 use Rattle.text.specs.Characters.{all, isDigit, from-to}
 use Rattle.text.specs.Rules.{must}
-use Rattle.field.specs.Numbers.{number, numberFrom, minus, unsigned, signed, plain, isZero, intForm, intValue, decForm, decValue}
+use Rattle.number.specs.Numbers.{number, numberFrom, minus, unsigned, signed, plain, isZero, intForm, intValue, decForm, decValue}
 use Rattle.field.specs.Types.{form, range, valueOf, periodRange, widthRight, Sound}
 use Rattle.field.specs.Judge.{Marked, bare, marked, mayBeEmpty, meetsMark, filled, refusalOf}
-use Rattle.field.specs.Leaves.{leads, digitsAnswer, intAnswer, negativeZero, decAnswer, pointedAnswer}
+use Rattle.number.specs.Leaves.{leads}
+use Rattle.field.specs.Leaves.{digitsAnswer, intAnswer, negativeZero, decAnswer, pointedAnswer}
 use Rattle.field.specs.declared.Mark.{Mark}
 use Rattle.field.specs.declared.Mark.the-variants as marks
 use Rattle.field.specs.declared.FieldType.{FieldType}
 use Rattle.field.specs.declared.FieldType.the-variants as types
 use Rattle.field.specs.declared.FieldAnswer.{FieldAnswer}
 use Rattle.field.specs.declared.FieldAnswer.the-variants.{Refused, Number}
-use Rattle.field.proofs.Digits.{and-left, and-right, plain-some, number-append}
+use Rattle.number.proofs.Digits.{and-left, and-right, plain-some, number-append, form-below, form-above}
 
 pub leads-some : (d : List ℕ) → leads d ≡ true → 0 < length d
 leads-some [] e = absurd (false≢true e)
@@ -51,16 +52,6 @@ must-both false y r after = refl
 pub int-is : (n : ℕ) (s : List ℕ) → filled (types.Int n) bare s ≡ intAnswer (minus s) n (unsigned s)
 unfolding filled form range valueOf intForm intValue intAnswer
 int-is n s = refl
-
--- the form of an int by its sign
-module _ (s : List ℕ) where
-  form-below : minus s ≡ true → intForm s ≡ (plain (drop 1 s) && not (eqb (getD (drop 1 s) 0 0) 48))
-  unfolding intForm unsigned
-  form-below e = rw e
-
-  pub form-above : minus s ≡ false → intForm s ≡ plain s
-  unfolding intForm unsigned
-  form-above e = rw e (and-true (plain s))
 
 -- no int has no digits
 no-room : (t : Bool) (d : List ℕ) (v : FieldAnswer) → (t ≡ true → 0 < length d)

@@ -1,10 +1,4 @@
-pub mod Rules
-pub mod Signs
-pub mod Digits
 pub mod Filled
-pub mod ByValue
-pub mod Spelling
 pub mod EachByValue
 pub mod OneAnswer
 pub mod Examples
-pub mod OnePass

@@ -1,26 +1,11 @@
 -- How two keys stand to each other (document 01, "Keys"). Assumes nothing.
 use Prim.Native.Nat.{ℕ}
-use mathlib.Core.Bool.{cond}
 use mathlib.Core.List.{List}
-use lib.IntN.{ℤ, pos, negsuc}
-use lib.ListN.{length}
-use Rattle.text.specs.Order.{numberOrder, textOrder, else}
+use Rattle.text.specs.Order.{textOrder}
 use Rattle.text.specs.declared.Order.{Order}
-use Rattle.text.specs.declared.Order.the-variants.{Below, Above}
-use Rattle.field.specs.Numbers.{minus, unsigned}
+use Rattle.number.specs.Order.{wholeOrder}
 use Rattle.field.specs.declared.FieldType.{FieldType}
 use Rattle.field.specs.declared.FieldType.the-variants as types
-
--- of two numbers without sign and leading zero the one of more digits is above, then the first digit that differs decides
-unfoldable pub digitsOrder : List ℕ → List ℕ → Order
-digitsOrder a b = else (numberOrder (length a) (length b)) (textOrder a b)
-
--- a number below zero stands below the others, and two such the other way round
-unfoldable pub wholeOrder : List ℕ → List ℕ → Order
-wholeOrder a b =
-    cond (minus a)
-    (cond (minus b) (digitsOrder (unsigned b) (unsigned a)) Below)
-    (cond (minus b) Above (digitsOrder a b))
 
 -- texts go by byte, all others by value: fields of right form have one spelling each, and the law keys-by-value shows that this is the order of their values
 unfoldable pub keyOrder : FieldType → List ℕ → List ℕ → Order
@@ -32,10 +17,3 @@ keyOrder types.Datetime a b = wholeOrder a b
 keyOrder types.Bol a b = textOrder a b
 keyOrder types.Period a b = wholeOrder a b
 keyOrder types.Null a b = textOrder a b
-
--- how two values stand to each other
-unfoldable pub valueOrder : ℤ → ℤ → Order
-valueOrder (pos m) (pos n) = numberOrder m n
-valueOrder (pos m) (negsuc n) = Above
-valueOrder (negsuc m) (pos n) = Below
-valueOrder (negsuc m) (negsuc n) = numberOrder n m

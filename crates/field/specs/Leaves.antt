@@ -1,24 +1,14 @@
 -- The rules of int and dec as the code's small functions meet them, the minus taken off. Assumes nothing.
 use Prim.Native.Nat.{ℕ, _+_, _-_}
-use mathlib.Core.Bool.{Bool, cond, not, _&&_, _||_}
+use mathlib.Core.Bool.{Bool, not, _&&_}
 use mathlib.Core.List.{List, _++_}
 use lib.Dec.{eqb, leb, ltb}
 use lib.ListN.{length, getD, take, drop}
 use Rattle.text.specs.Characters.{all, isDigit}
 use Rattle.text.specs.Rules.{must}
-use Rattle.field.specs.Numbers.{number, numberFrom, signed, isZero, plain}
-use Rattle.field.specs.declared.Spelt.{Spelt}
-use Rattle.field.specs.declared.Spelt.the-variants.{Digits, Other}
+use Rattle.number.specs.Numbers.{number, numberFrom, signed, isZero, plain}
 use Rattle.field.specs.declared.FieldAnswer.{FieldAnswer}
 use Rattle.field.specs.declared.FieldAnswer.the-variants.{Refused, Number}
-
--- one byte or more, and no zero before another
-abbrev pub leads : List ℕ → Bool
-leads d = not (eqb (length d) 0) && (eqb (length d) 1 || not (eqb (getD d 0 0) 48))
-
--- what a pass over digits finds, after digits that spell v: the number that all spell, or a byte that is no digit
-abbrev pub speltFrom : ℕ → List ℕ → Spelt
-speltFrom v d = cond (all isDigit d) (Digits (numberFrom v d)) Other
 
 -- digits after digits that spell v, with their sign
 abbrev pub digitsAnswer : Bool → ℕ → List ℕ → FieldAnswer

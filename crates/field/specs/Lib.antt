@@ -1,5 +1,3 @@
-pub mod Numbers
-pub mod Calendar
 pub mod Types
 pub mod Judge
 pub mod Leaves

@@ -5,17 +5,13 @@ use mathlib.Core.List.{List}
 use lib.Dec.{eqb, leb}
 use lib.IntN.{pos}
 use lib.ListN.{length, getD}
-use Rattle.text.specs.Characters.{all, isDigit, isText, from-to}
-use Rattle.field.specs.Numbers.{number, minus, unsigned, intForm, intValue, decForm, decValue}
-use Rattle.field.specs.Calendar.{isDate, isTime}
+use Rattle.text.specs.Characters.{all, isText, from-to}
+use Rattle.number.specs.Numbers.{digits, number, minus, unsigned, intForm, intValue, decForm, decValue}
+use Rattle.number.specs.Calendar.{isDate, isTime}
 use Rattle.field.specs.declared.FieldType.{FieldType}
 use Rattle.field.specs.declared.FieldType.the-variants as types
 use Rattle.field.specs.declared.FieldAnswer.{FieldAnswer}
 use Rattle.field.specs.declared.FieldAnswer.the-variants as answers
-
--- so many digits, and nothing else
-abbrev pub digits : ℕ → List ℕ → Bool
-digits n s = eqb (length s) n && all isDigit s
 
 -- listed characters, no leading or trailing space
 unfoldable pub textForm : List ℕ → Bool

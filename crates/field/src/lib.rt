@@ -1,4 +1,5 @@
 // One field's bytes judged against a type and its mark.
+use number::Spelt;
 use text::Order;
 ghost use mathlib.Core.Path.{_≡_};
 ghost use mathlib.Core.Bool.{_&&_};
@@ -8,12 +9,11 @@ ghost use lib.IntN.{pos};
 ghost use lib.ListN.{length};
 ghost use Rattle.text.specs.Rules.{must};
 ghost use Rattle.text.specs.Characters.{all, isDigit, from-to, IsClassTable};
-ghost use Rattle.field.specs.Numbers.{minus as minusOf, unsigned as unsignedOf, isZero, signed as signedOf, spelled};
-ghost use Rattle.field.specs.Calendar.{leap, daysIn, isDay, isDate, isTime};
+ghost use Rattle.number.specs.Calendar.{isDate, isTime};
 ghost use Rattle.field.specs.Types.{Sound, widthRight, isNull};
 ghost use Rattle.field.specs.Judge.{bare, marked, mayBeEmpty, meetsMark, filled, fieldAnswer, fieldJudged, paper, refusalOf};
-ghost use Rattle.field.specs.Leaves.{leads, speltFrom, digitsAnswer, intAnswer, negativeZero, decAnswer, pointedAnswer};
-ghost use Rattle.field.specs.Keys.{digitsOrder, wholeOrder, keyOrder};
+ghost use Rattle.field.specs.Leaves.{digitsAnswer, intAnswer, negativeZero, decAnswer, pointedAnswer};
+ghost use Rattle.field.specs.Keys.{keyOrder};
 ghost use Rattle.field.specs.declared.FieldType.the-variants as types;
 ghost use Rattle.field.specs.declared.FieldAnswer.the-variants as answers;
 
@@ -45,106 +45,13 @@ pub enum FieldAnswer {
     Text,
 }
 
-// What a pass over digits finds: the number that they spell, or a byte that is no digit.
-enum Spelt {
-    Digits(u64),
-    Other,
-}
-
-// Each byte is a digit.
-fn all_digits(s: &[u8]) -> bool
-    ensures { λ r. ⌜ r ≡ all isDigit (now (s .entry)) ⌝ }
-{
-    let mut i = 0;
-    while i < s.len() {
-        if s[i] < 48 {
-            return false;
-        }
-        if 57 < s[i] {
-            return false;
-        }
-        i += 1;
-    }
-    true
-}
-
-// A byte as a number of 64 bits.
-fn wide(b: u8) -> u64
-    ensures { λ r. ⌜ r ≡ b ⌝ }
-{
-    b as u64
-}
-
-// Digits tested and read in one pass, after digits that spell `v`. Each byte leaves its mark in `marks`, which is
-// tested once: 303 - b is below 256 from 48 on, and b + 198 up to 57. A byte's last four bits are its digit.
-fn read_digits(v: u64, d: &[u8]) -> Spelt
-    requires { ⌜ (v + 2) * 10 ^ length (now d) ≤ 2 * 10 ^ 18 ⌝ }
-    ensures { λ r. ⌜ r ≡ speltFrom v (now (d .entry)) ⌝ }
-{
-    let mut n = v;
-    let mut marks: u64 = 0;
-    let mut i = 0;
-    while i < d.len() {
-        let b = wide(d[i]);
-        marks = marks | (303 - b) | (b + 198);
-        n = n * 10 + b % 16;
-        i += 1;
-    }
-    if 256 <= marks {
-        return Spelt::Other;
-    }
-    Spelt::Digits(n)
-}
-
-// The first byte is a minus.
-fn minus(s: &[u8]) -> bool
-    ensures { λ r. ⌜ r ≡ minusOf (now (s .entry)) ⌝ }
-{
-    if s.len() == 0 {
-        return false;
-    }
-    s[0] == 45
-}
-
-// The bytes after the minus, if there is one.
-fn unsigned<'a>(s: &'a [u8]) -> &'a [u8]
-    ensures { λ r. ⌜ now r ≡ unsignedOf (now (s .entry)) ⌝ }
-{
-    if minus(s) {
-        return &s[1..];
-    }
-    s
-}
-
-// One byte or more, and no zero before another.
-fn leads_right(d: &[u8]) -> bool
-    ensures { λ r. ⌜ r ≡ leads (now (d .entry)) ⌝ }
-{
-    if d.len() == 0 {
-        return false;
-    }
-    if d.len() == 1 {
-        return true;
-    }
-    d[0] != 48
-}
-
-// A magnitude with its sign; within 63 bits the negation cannot wrap.
-fn signed(below: bool, v: u64) -> i64
-    requires { ⌜ v < 2 ^ 63 ⌝ }
-    ensures { λ r. ⌜ r ≡ signedOf below v ⌝ }
-{
-    let x = v as i64;
-    if below { 0 - x } else { x }
-}
-
 // Digits after digits that spell `v`, with their sign.
 fn signed_digits(below: bool, v: u64, d: &[u8]) -> FieldAnswer
     requires { ⌜ (v + 2) * 10 ^ length (now d) ≤ 2 * 10 ^ 18 ⌝ }
     ensures { λ r. ⌜ r ≡ digitsAnswer below v (now (d .entry)) ⌝ }
 {
-    match read_digits(v, d) {
-        Spelt::Digits(n) => FieldAnswer::Number(signed(below, n)),
+    match number::read_digits(v, d) {
+        Spelt::Digits(n) => FieldAnswer::Number(number::signed(below, n)),
         Spelt::Other => FieldAnswer::Refused(8),
     }
 }
@@ -153,7 +60,7 @@ fn signed_digits(below: bool, v: u64, d: &[u8]) -> FieldAnswer
 fn too_long(d: &[u8]) -> FieldAnswer
     ensures { λ r. ⌜ r ≡ must (all isDigit (now (d .entry))) (answers.Refused 8) (answers.Refused 9) ⌝ }
 {
-    if all_digits(d) {
+    if number::all_digits(d) {
         return FieldAnswer::Refused(9);
     }
     FieldAnswer::Refused(8)
@@ -164,7 +71,7 @@ fn int_of(below: bool, d: &[u8], n: usize) -> FieldAnswer
     requires { ⌜ n ≤ 18 ⌝ }
     ensures { λ r. ⌜ r ≡ intAnswer below n (now (d .entry)) ⌝ }
 {
-    if !leads_right(d) {
+    if !number::leads_right(d) {
         return FieldAnswer::Refused(8);
     }
     if below {
@@ -183,21 +90,7 @@ pub fn judge_int(s: &[u8], n: usize) -> FieldAnswer
     requires { ⌜ n ≤ 18 ⌝ }
     ensures { λ r. ⌜ r ≡ filled (types.Int n) bare (now (s .entry)) ⌝ }
 {
-    int_of(minus(s), unsigned(s), n)
-}
-
-// Each byte is the digit 0.
-fn all_zero(s: &[u8]) -> bool
-    ensures { λ r. ⌜ r ≡ all isZero (now (s .entry)) ⌝ }
-{
-    let mut i = 0;
-    while i < s.len() {
-        if s[i] != 48 {
-            return false;
-        }
-        i += 1;
-    }
-    true
+    int_of(number::minus(s), number::unsigned(s), n)
 }
 
 // A minus before nothing but zeros.
@@ -207,17 +100,17 @@ fn negative_zero(below: bool, whole: &[u8], places: &[u8]) -> bool
     if !below {
         return false;
     }
-    if !all_zero(whole) {
+    if !number::all_zero(whole) {
         return false;
     }
-    all_zero(places)
+    number::all_zero(places)
 }
 
 // Too many bytes before and after the point: as too_long.
 fn both_too_long(whole: &[u8], places: &[u8]) -> FieldAnswer
     ensures { λ r. ⌜ r ≡ must (all isDigit (now (whole .entry)) && all isDigit (now (places .entry))) (answers.Refused 8) (answers.Refused 9) ⌝ }
 {
-    if !all_digits(whole) {
+    if !number::all_digits(whole) {
         return FieldAnswer::Refused(8);
     }
     too_long(places)
@@ -228,7 +121,7 @@ fn dec_parts(below: bool, whole: &[u8], places: &[u8], p: usize) -> FieldAnswer
     requires { ⌜ p ≤ 18 ⌝ }
     ensures { λ r. ⌜ r ≡ decAnswer below p (now (whole .entry)) (now (places .entry)) ⌝ }
 {
-    if !leads_right(whole) {
+    if !number::leads_right(whole) {
         return FieldAnswer::Refused(8);
     }
     if negative_zero(below, whole, places) {
@@ -240,7 +133,7 @@ fn dec_parts(below: bool, whole: &[u8], places: &[u8], p: usize) -> FieldAnswer
     if p - whole.len() < places.len() {
         return both_too_long(whole, places);
     }
-    match read_digits(0, whole) {
+    match number::read_digits(0, whole) {
         Spelt::Digits(v) => signed_digits(below, v, places),
         Spelt::Other => FieldAnswer::Refused(8),
     }
@@ -267,73 +160,7 @@ pub fn judge_dec(s: &[u8], p: usize, q: usize) -> FieldAnswer
     requires { ⌜ p ≤ 18 ⌝ }
     ensures { λ r. ⌜ r ≡ filled (types.Dec p q) bare (now (s .entry)) ⌝ }
 {
-    dec_of(minus(s), unsigned(s), p, q)
-}
-
-// Each fourth year but each hundredth, and each four hundredth after all.
-fn is_leap(y: u64) -> bool
-    ensures { λ r. ⌜ r ≡ leap y ⌝ }
-{
-    if y % 4 != 0 {
-        return false;
-    }
-    if y % 100 != 0 {
-        return true;
-    }
-    y % 400 == 0
-}
-
-// February has 28 days, 29 in a leap year; April, June, September and November 30; the others 31.
-fn days_in(y: u64, m: u64) -> u64
-    ensures { λ r. ⌜ r ≡ daysIn y m ⌝ }
-{
-    match m {
-        2 => { if is_leap(y) { 29 } else { 28 } }
-        4 | 6 | 9 | 11 => 30,
-        _ => 31,
-    }
-}
-
-// Day d of month m of year y is in the calendar.
-fn is_day(y: u64, m: u64, d: u64) -> bool
-    ensures { λ r. ⌜ r ≡ isDay y m d ⌝ }
-{
-    if y < 1 {
-        return false;
-    }
-    if 9999 < y {
-        return false;
-    }
-    if m < 1 {
-        return false;
-    }
-    if 12 < m {
-        return false;
-    }
-    if d < 1 {
-        return false;
-    }
-    d <= days_in(y, m)
-}
-
-// YYYYMMDD as one number.
-fn is_date(v: u64) -> bool
-    ensures { λ r. ⌜ r ≡ isDate v ⌝ }
-{
-    is_day(v / 10000, v / 100 % 100, v % 100)
-}
-
-// hhmmss as one number.
-fn is_time(v: u64) -> bool
-    ensures { λ r. ⌜ r ≡ isTime v ⌝ }
-{
-    if 23 < v / 10000 {
-        return false;
-    }
-    if 59 < v / 100 % 100 {
-        return false;
-    }
-    v % 100 <= 59
+    dec_of(number::minus(s), number::unsigned(s), p, q)
 }
 
 // Eight digits as one number.
@@ -341,10 +168,10 @@ fn date_answer(v: u64) -> FieldAnswer
     requires { ⌜ v < 2 ^ 63 ⌝ }
     ensures { λ r. ⌜ r ≡ must (isDate v) (answers.Refused 9) (answers.Number (pos v)) ⌝ }
 {
-    if !is_date(v) {
+    if !number::is_date(v) {
         return FieldAnswer::Refused(9);
     }
-    FieldAnswer::Number(signed(false, v))
+    FieldAnswer::Number(number::signed(false, v))
 }
 
 // A date is 8 digits, then a day of the calendar.
@@ -354,7 +181,7 @@ pub fn judge_date(s: &[u8]) -> FieldAnswer
     if s.len() != 8 {
         return FieldAnswer::Refused(8);
     }
-    match read_digits(0, s) {
+    match number::read_digits(0, s) {
         Spelt::Digits(v) => date_answer(v),
         Spelt::Other => FieldAnswer::Refused(8),
     }
@@ -365,13 +192,13 @@ fn datetime_answer(v: u64) -> FieldAnswer
     requires { ⌜ v < 2 ^ 63 ⌝ }
     ensures { λ r. ⌜ r ≡ must (isDate (v / 1000000) && isTime (v % 1000000)) (answers.Refused 9) (answers.Number (pos v)) ⌝ }
 {
-    if !is_date(v / 1000000) {
+    if !number::is_date(v / 1000000) {
         return FieldAnswer::Refused(9);
     }
-    if !is_time(v % 1000000) {
+    if !number::is_time(v % 1000000) {
         return FieldAnswer::Refused(9);
     }
-    FieldAnswer::Number(signed(false, v))
+    FieldAnswer::Number(number::signed(false, v))
 }
 
 // A datetime is 14 digits, then a day of the calendar and a time of the day.
@@ -381,7 +208,7 @@ pub fn judge_datetime(s: &[u8]) -> FieldAnswer
     if s.len() != 14 {
         return FieldAnswer::Refused(8);
     }
-    match read_digits(0, s) {
+    match number::read_digits(0, s) {
         Spelt::Digits(v) => datetime_answer(v),
         Spelt::Other => FieldAnswer::Refused(8),
     }
@@ -413,23 +240,23 @@ fn period_answer(v: u64) -> FieldAnswer
     if 50 < v {
         return FieldAnswer::Refused(9);
     }
-    FieldAnswer::Number(signed(false, v))
+    FieldAnswer::Number(number::signed(false, v))
 }
 
 // An int first; one below zero is out of range like one of too many digits.
 pub fn judge_period(s: &[u8]) -> FieldAnswer
     ensures { λ r. ⌜ r ≡ filled types.Period bare (now (s .entry)) ⌝ }
 {
-    if minus(s) {
+    if number::minus(s) {
         return int_of(true, &s[1..], 0);
     }
-    if !leads_right(s) {
+    if !number::leads_right(s) {
         return FieldAnswer::Refused(8);
     }
     if 2 < s.len() {
         return too_long(s);
     }
-    match read_digits(0, s) {
+    match number::read_digits(0, s) {
         Spelt::Digits(v) => period_answer(v),
         Spelt::Other => FieldAnswer::Refused(8),
     }
@@ -610,63 +437,18 @@ pub fn judge(t: FieldType, m: Mark, fixed: &[u8], s: &[u8]) -> FieldAnswer
     judge_marked(t, m, fixed, &class, s)
 }
 
-// The bytes are the one spelling of v, in at most 10 digits.
-pub fn spells(s: &[u8], v: u64) -> bool
-    ensures { λ r. ⌜ r ≡ spelled v (now (s .entry)) ⌝ }
-{
-    if 10 < s.len() {
-        return false;
-    }
-    if !leads_right(s) {
-        return false;
-    }
-    match read_digits(0, s) {
-        Spelt::Digits(n) => n == v,
-        Spelt::Other => false,
-    }
-}
-
-// Two numbers without sign and leading zero: more digits is above.
-fn digits_order(a: &[u8], b: &[u8]) -> Order
-    ensures { λ r. ⌜ r ≡ digitsOrder (now (a .entry)) (now (b .entry)) ⌝ }
-{
-    if a.len() < b.len() {
-        return Order::Below;
-    }
-    if b.len() < a.len() {
-        return Order::Above;
-    }
-    text::text_order(a, b)
-}
-
-// Two numbers that may have a sign: those below zero stand below, and the other way round among themselves.
-fn whole_order(a: &[u8], b: &[u8]) -> Order
-    ensures { λ r. ⌜ r ≡ wholeOrder (now (a .entry)) (now (b .entry)) ⌝ }
-{
-    if minus(a) {
-        if minus(b) {
-            return digits_order(&b[1..], &a[1..]);
-        }
-        return Order::Below;
-    }
-    if minus(b) {
-        return Order::Above;
-    }
-    digits_order(a, b)
-}
-
 // How the key a stands to the key b: texts by byte, all others by value.
 pub fn key_order(t: FieldType, a: &[u8], b: &[u8]) -> Order
     ensures { λ r. ⌜ r ≡ keyOrder t (now (a .entry)) (now (b .entry)) ⌝ }
 {
     match t {
         FieldType::Text(_) => text::text_order(a, b),
-        FieldType::Int(_) => whole_order(a, b),
-        FieldType::Dec(_, _) => whole_order(a, b),
-        FieldType::Date => whole_order(a, b),
-        FieldType::Datetime => whole_order(a, b),
+        FieldType::Int(_) => number::whole_order(a, b),
+        FieldType::Dec(_, _) => number::whole_order(a, b),
+        FieldType::Date => number::whole_order(a, b),
+        FieldType::Datetime => number::whole_order(a, b),
         FieldType::Bol => text::text_order(a, b),
-        FieldType::Period => whole_order(a, b),
+        FieldType::Period => number::whole_order(a, b),
         FieldType::Null => text::text_order(a, b),
     }
 }

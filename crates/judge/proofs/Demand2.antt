@@ -12,18 +12,19 @@ use Rattle.text.specs.Rules.{must}
 use Rattle.record.specs.Records.{records, fields, field, barred}
 use Rattle.record.specs.Checksum.{checksum}
 use Rattle.record.proofs.Pieces.{barred-bar}
-use Rattle.field.specs.Numbers.{spelled}
-use Rattle.field.proofs.Digits.{and-left, and-right}
+use Rattle.number.specs.Numbers.{spelled}
+use Rattle.number.proofs.Digits.{and-left, and-right}
 use Rattle.layout.specs.Layout.{Rule, Layout, row, mayFollow, isFooter}
 use Rattle.grammar.specs.Table.{agrees}
 use Rattle.flow.specs.Publication.{Flow, names, layoutFor}
 use Rattle.flow.specs.Flows.{flows, flowAt, flowNamed, flowNumber, held, p0012}
 use Rattle.flow.proofs.Agree.{tables-agree, some-kind}
-use Rattle.judge.specs.Fields.{fieldsFault}
-use Rattle.judge.specs.Record.{kindOf, lastKind, sumOf, footerFault}
+use Rattle.fault.specs.Fields.{fieldsFault}
+use Rattle.fault.specs.Record.{kindOf, footerFault}
+use Rattle.judge.specs.Record.{lastKind, sumOf}
 use Rattle.judge.specs.File.{bar, checkedFrom, endsInFeed, ended, finish, judgedBy, verdict, judged, accepted, paper}
 use Rattle.judge.specs.Right.{kindIn, publishedAs, publishedFor, Typed, RightFor, Right}
-use Rattle.judge.specs.declared.Check.the-variants.{Fine, Fault}
+use Rattle.fault.specs.declared.Check.the-variants.{Fine, Fault}
 use Rattle.judge.specs.declared.Verdict.{Verdict}
 use Rattle.judge.specs.declared.Verdict.the-variants.{Accepted, Refused}
 use Rattle.judge.proofs.Files.{last-snoc}

@@ -7,8 +7,8 @@ use mathlib.Core.List.{List, [], _∷_, _++_, map}
 use Rattle.text.specs.Characters.{bytes, isDigit, isText}
 use Rattle.record.specs.Records.{joined, onto, records, fields, field, bar as barOf, barred}
 use Rattle.record.specs.Checksum.{words, addRecord, checksum}
-use Rattle.field.specs.Numbers.{minus, unsigned, plain, intForm, intValue, decForm, decValue, spelled}
-use Rattle.field.specs.Calendar.{leap, daysIn, isDay, isDate, isTime}
+use Rattle.number.specs.Numbers.{minus, unsigned, plain, intForm, intValue, decForm, decValue, spelled}
+use Rattle.number.specs.Calendar.{leap, daysIn, isDay, isDate, isTime}
 use Rattle.field.specs.Types.{textForm, periodRange, form, range, valueOf, widthRight}
 use Rattle.field.specs.Judge.{bare, filled, fieldAnswer, judgedAs, fieldJudged, Reply as FieldReply, refused as refusedAs, number}
 use Rattle.field.specs.declared.FieldType.{FieldType}
@@ -16,8 +16,9 @@ use Rattle.field.specs.declared.FieldType.the-variants.{Text, Int, Dec, Date}
 use Rattle.layout.specs.Layout.{among, find}
 use Rattle.flow.specs.Letters.{P0012001, P0133001, P0138001}
 use Rattle.flow.specs.Flows.{flowNumber}
-use Rattle.judge.specs.Fields.{fieldFault, fieldsFault}
-use Rattle.judge.specs.Record.{lastKind, keyWith, keyBefore, placeFault, shapeFault, keyFault, footerFault, kindFault, fault}
+use Rattle.fault.specs.Fields.{fieldFault, fieldsFault}
+use Rattle.fault.specs.Record.{placeFault, shapeFault, keyFault, footerFault, kindFault}
+use Rattle.judge.specs.Record.{lastKind, keyWith, keyBefore, fault}
 use Rattle.judge.specs.File.{checkedFrom, ended, judgedBy, verdict, judged, Reply, accepted, refused}
 
 -- lines with a line feed after each

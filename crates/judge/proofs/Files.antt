@@ -13,12 +13,14 @@ use Rattle.record.specs.Records.{records, onto, barred, IsPart}
 use Rattle.record.specs.Checksum.{addRecord, checksum}
 use Rattle.record.proofs.Sums.{checksum-snoc}
 use Rattle.layout.specs.Layout.{Layout, row}
-use Rattle.judge.specs.Record.{kindOf, lastKind, keyIn, keyWith, keyBefore, sumOf, fault, kindFault}
+use Rattle.fault.specs.Record.{kindOf, keyIn, kindFault}
+use Rattle.judge.specs.Record.{lastKind, keyWith, keyBefore, sumOf, fault}
 use Rattle.judge.specs.File.{bar, atRecord, checkedFrom, endsInFeed, ended, judgedBy}
-use Rattle.judge.specs.Code.{summary, keyInSlots, nextState, recordFault, Passed}
-use Rattle.judge.specs.declared.Check.{Check}
-use Rattle.judge.specs.declared.Check.the-variants.{Fine, Fault}
-use Rattle.judge.specs.declared.State.{State}
+use Rattle.fault.specs.Code.{keyInSlots, nextState, recordFault, Passed}
+use Rattle.judge.specs.Code.{summary}
+use Rattle.fault.specs.declared.Check.{Check}
+use Rattle.fault.specs.declared.Check.the-variants.{Fine, Fault}
+use Rattle.fault.specs.declared.State.{State}
 use Rattle.judge.specs.declared.Verdict.{Verdict}
 use Rattle.judge.specs.declared.Verdict.the-variants.{Accepted, Refused}
 use Rattle.judge.proofs.Slots.{putIn, put-size, stamps-next, keys-next, none-at}

@@ -1,6 +1,4 @@
-pub mod Fields
-pub mod Leaves
-pub mod Keys
+pub mod Ends
 pub mod Slots
 pub mod Files
 pub mod RightEach

@@ -18,19 +18,17 @@ use Rattle.field.specs.declared.FieldAnswer.{FieldAnswer}
 use Rattle.field.specs.declared.FieldAnswer.the-variants as answers
 use Rattle.layout.specs.Layout.{Rule, Layout, row, mayFollow}
 use Rattle.flow.specs.Publication.{null}
-use Rattle.judge.specs.Fields.{also, fieldFault, fieldsFault}
-use Rattle.judge.specs.Record.{kindOf, lastKind, keyIn, keyBefore, sumOf, placeFault, shapeFault, keyFault, footerFault, kindFault, fault}
+use Rattle.fault.proofs.Leaves.{no-fault}
+use Rattle.fault.specs.Fields.{also, fieldFault, fieldsFault}
+use Rattle.fault.specs.Record.{kindOf, keyIn, placeFault, shapeFault, keyFault, footerFault, kindFault}
+use Rattle.judge.specs.Record.{lastKind, keyBefore, sumOf, fault}
 use Rattle.judge.specs.File.{bar, atRecord, checkedFrom}
 use Rattle.judge.specs.Right.{Meets, Typed}
 use Rattle.judge.proofs.RightEach.{Each, each-none, each-cons, each-first, each-rest}
-use Rattle.judge.specs.declared.Check.{Check}
-use Rattle.judge.specs.declared.Check.the-variants.{Fine, Fault}
+use Rattle.fault.specs.declared.Check.{Check}
+use Rattle.fault.specs.declared.Check.the-variants.{Fine, Fault}
 use Rattle.judge.specs.declared.Verdict.{Verdict}
 use Rattle.judge.specs.declared.Verdict.the-variants.{Accepted, Refused}
-
--- a fault is not nothing
-pub no-fault : {n f : ℕ} → Fault n f ≡ Fine → ⊥
-no-fault e = let z : _≡_ {A = ℕ} 0 1 = cc in omega arith
 
 -- nothing is wrong exactly where each test holds
 pub must-fine : (b : Bool) (n f : ℕ) (rest : Check) → must b (Fault n f) rest ≡ Fine → (b ≡ true) × (rest ≡ Fine)

@@ -15,15 +15,16 @@ use Rattle.record.specs.Records.{field}
 use Rattle.field.specs.Types.{isNull}
 use Rattle.field.specs.Judge.{mayBeEmpty}
 use Rattle.field.specs.Keys.{keyOrder}
-use Rattle.field.proofs.Digits.{and-left, and-right}
+use Rattle.number.proofs.Digits.{and-left, and-right}
 use Rattle.layout.specs.Layout.{KindRow, Layout, row, kindNamed}
 use Rattle.layout.proofs.Names.{found-row}
 use Rattle.grammar.specs.Table.{rowOf}
 use Rattle.flow.specs.Publication.{Flow, PublishedKind, names, null, rowFor, layoutFor}
-use Rattle.judge.specs.Record.{kindOf, keyIn, keyWith, keyBefore, keyType, isBelow, ascending, keyFault}
+use Rattle.fault.specs.Record.{kindOf, keyIn, keyType, isBelow, ascending, keyFault}
+use Rattle.judge.specs.Record.{keyWith, keyBefore}
 use Rattle.judge.specs.File.{bar}
 use Rattle.judge.specs.Right.{kindIn, NoneOfKind, publishedAs, publishedFor, Typed, keyTypeFor, Ascends}
-use Rattle.judge.specs.declared.Check.the-variants.{Fine}
+use Rattle.fault.specs.declared.Check.the-variants.{Fine}
 use Rattle.judge.proofs.RightEach.{Each, each-first, each-rest}
 use Rattle.judge.proofs.RightFields.{must-fine, fine-must, filled-right}
 use Rattle.judge.proofs.RightKinds.{place-is, kind-row, known-row, one-name, one-kind}

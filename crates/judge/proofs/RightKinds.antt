@@ -12,7 +12,7 @@ use borrow.Author.Tests.{eqb-true, eqb-false, not-true, le-leb, eq-eqb, ne-eqb}
 use Rattle.text.specs.Order.{sameBytes}
 use Rattle.text.specs.Rules.{must}
 use Rattle.text.specs.Characters.{from-to}
-use Rattle.field.proofs.Digits.{and-right}
+use Rattle.number.proofs.Digits.{and-right}
 use Rattle.layout.specs.Layout.{KindRow, Layout, row, blank, find, kindNamed, among, mayFollow, isFooter}
 use Rattle.grammar.specs.Sets.{Sets, Under}
 use Rattle.grammar.specs.Walk.{Walked, stopped, through, Goes}
@@ -22,7 +22,8 @@ use Rattle.grammar.proofs.Walks.{never-both, under-completes}
 use Rattle.grammar.proofs.TableWalks.{table-goes-iff, table-complete-iff}
 use Rattle.flow.proofs.Agree.{rows-are}
 use Rattle.flow.specs.Publication.{Flow, PublishedKind, names, placeOf, rowFor, layoutFor}
-use Rattle.judge.specs.Record.{kindOf, lastKind}
+use Rattle.fault.specs.Record.{kindOf}
+use Rattle.judge.specs.Record.{lastKind}
 use Rattle.judge.specs.File.{bar}
 use Rattle.judge.specs.Right.{kindIn, publishedAs}
 use Rattle.judge.proofs.Files.{last-snoc}

@@ -9,8 +9,9 @@ use lib.ListN.{length, getD, take, drop, set, length-set, replicate}
 use lib.Seq.{getD-set-same, getD-set-other}
 use borrow.Author.Tests.{eqb-true, eqb-false, lt-ltb, le-ltb}
 use Rattle.layout.specs.Layout.{Layout, row}
-use Rattle.judge.specs.Record.{kindOf, keyIn, keyWith}
-use Rattle.judge.specs.Code.{keyInSlots}
+use Rattle.fault.specs.Record.{kindOf, keyIn}
+use Rattle.judge.specs.Record.{keyWith}
+use Rattle.fault.specs.Code.{keyInSlots}
 
 -- the slots after a record of kind k, the n-th, whose key starts at a and is len bytes long
 abbrev pub putIn : List ℕ → ℕ → ℕ → ℕ → ℕ → List ℕ

@@ -1,24 +1,13 @@
--- What the code keeps while it reads: a summary of the records passed, and slots with their last keys. Assumes nothing.
-use Prim.Native.Nat.{ℕ, _+_, _*_}
+-- What the code keeps while it reads: a summary of the records passed. Assumes nothing.
+use Prim.Native.Nat.{ℕ}
 use mathlib.Core.Path.{_≡_}
-use mathlib.Core.Bool.{cond}
 use mathlib.Core.List.{List, []}
-use lib.Dec.{ltb, leb}
-use lib.ListN.{length, getD, take, drop}
-use Rattle.text.specs.Rules.{must}
-use Rattle.record.specs.Records.{records, field, barred, IsPart}
-use Rattle.record.specs.Checksum.{addRecord}
-use Rattle.layout.specs.Layout.{Rule, Layout, row}
-use Rattle.judge.specs.Record.{kindOf, lastKind, keyIn, sumOf, shapeFault, keyFault, footerFault, kindFault}
-use Rattle.judge.specs.Fields.{also}
+use lib.ListN.{length}
+use Rattle.record.specs.Records.{records}
+use Rattle.layout.specs.Layout.{Layout}
+use Rattle.fault.specs.declared.State.{State}
+use Rattle.judge.specs.Record.{lastKind, sumOf}
 use Rattle.judge.specs.File.{checkedFrom}
-use Rattle.judge.specs.declared.Check.{Check}
-use Rattle.judge.specs.declared.Check.the-variants.{Fine, Fault}
-use Rattle.judge.specs.declared.Shape.{Shape}
-use Rattle.judge.specs.declared.Shape.the-variants.{Wrong, Right}
-use Rattle.judge.specs.declared.State.{State}
-use Rattle.judge.specs.declared.Outcome.{Outcome}
-use Rattle.judge.specs.declared.Outcome.the-variants.{Pass, Stop}
 use Rattle.judge.specs.declared.Walk.{Walk}
 use Rattle.judge.specs.declared.Walk.the-variants.{Stopped, Through}
 use Rattle.judge.specs.declared.Verdict.the-variants.{Accepted, Refused}
@@ -26,52 +15,6 @@ use Rattle.judge.specs.declared.Verdict.the-variants.{Accepted, Refused}
 -- the state is a summary of the records passed: how many, the last one's kind, their checksum
 unfoldable pub summary : ℕ → Layout → List (List ℕ) → State
 summary sep l before = record { count = length before; last = lastKind sep l before; sum = sumOf sep before }
-
--- three numbers for each kind: the record that had it last, and where its key starts in the file and how long it is.
--- A key counts where its record is later than the last one of the kind that heads its set
-abbrev pub keyInSlots : Layout → List ℕ → List ℕ → ℕ → List ℕ
-keyInSlots l file slots k =
-    cond (ltb (getD slots (3 * row l k .head) 0) (getD slots (3 * k) 0))
-    (take (getD slots (3 * k + 2) 0) (drop (getD slots (3 * k + 1) 0) file))
-    []
-
--- what the fields of a record come to by some rules: the first fault, or the place of field key
-abbrev pub ShapeRight : ℕ → ℕ → List Rule → List ℕ → Shape → Type 0
-ShapeRight sep key rules r (Wrong number f) = shapeFault sep rules r ≡ Fault number f
-ShapeRight sep key rules r (Right p) = (shapeFault sep rules r ≡ Fine) × IsPart r (p .from) (p .to) (field sep key r)
-
--- the state with one record more
-abbrev pub nextState : ℕ → Layout → State → List ℕ → State
-nextState sep l st r = record { count = st .count + 1; last = kindOf sep l r; sum = addRecord (st .sum) (barred sep r) }
-
--- the faults 11, 12 and 13 of a record of kind k
-unfoldable pub closeFault : ℕ → Layout → State → List ℕ → ℕ → List ℕ → Check
-closeFault sep l st old k r = also (keyFault l k old (keyIn sep l k r)) (footerFault sep l (st .count) (st .sum) k r)
-
--- what a record of kind k comes to that no rule up to 10 refuses
-abbrev pub ClosedRight : ℕ → Layout → State → List ℕ → ℕ → List ℕ → Outcome → Type 0
-ClosedRight sep l st old k r (Stop number f) = closeFault sep l st old k r ≡ Fault number f
-ClosedRight sep l st old k r (Pass next from to) =
-    (closeFault sep l st old k r ≡ Fine)
-    × (next ≡ record { count = st .count + 1; last = k; sum = addRecord (st .sum) (barred sep r) })
-    × IsPart r from to (keyIn sep l k r)
-
--- the first fault of a record, by the state and the keys before it
-unfoldable pub recordFault : ℕ → Layout → State → (ℕ → List ℕ) → List ℕ → Check
-recordFault sep l st old r =
-    must (leb (length r) 512) (Fault 3 0)
-    (kindFault sep l (st .count) (st .last) (st .sum) (old (kindOf sep l r)) (kindOf sep l r) r)
-
--- a record passed: nothing is wrong with it, the next state, and the place of its key in it
-pub record Passed (sep : ℕ) (l : Layout) (st : State) (old : ℕ → List ℕ) (r : List ℕ) (next : State) (from to : ℕ) : Type 0 where
-  pub fine : recordFault sep l st old r ≡ Fine
-  pub state : next ≡ nextState sep l st r
-  pub key : IsPart r from to (keyIn sep l (kindOf sep l r) r)
-
--- what one record comes to
-abbrev pub OutcomeRight : ℕ → Layout → State → (ℕ → List ℕ) → List ℕ → Outcome → Type 0
-OutcomeRight sep l st old r (Stop number f) = recordFault sep l st old r ≡ Fault number f
-OutcomeRight sep l st old r (Pass next from to) = Passed sep l st old r next from to
 
 -- what all records of some bytes come to: the first refusal, or the summary of them all
 abbrev pub WalkRight : ℕ → Layout → List ℕ → Walk → Type 0

@@ -1,4 +1,3 @@
-pub mod Fields
 pub mod Record
 pub mod File
 pub mod Code

@@ -1,38 +1,23 @@
 -- What is wrong with one record, given the records before it (document 01, refusals 3 to 13). Fields are parted by the byte sep,
 -- a bar in a file. Assumes nothing.
-use Prim.Native.Nat.{ℕ, _+_, _-_}
-use mathlib.Core.Bool.{Bool, true, false, cond, not, _||_}
+use Prim.Native.Nat.{ℕ}
+use mathlib.Core.Bool.{cond}
 use mathlib.Core.List.{List, [], _∷_, foldl, map}
 use lib.Dec.{eqb, leb}
-use lib.ListN.{length, drop, getD}
+use lib.ListN.{length}
 use Rattle.text.specs.Rules.{must}
-use Rattle.text.specs.declared.Order.{Order}
-use Rattle.text.specs.declared.Order.the-variants.{Below, Equal, Above}
-use Rattle.record.specs.Records.{fields, field, barred}
+use Rattle.record.specs.Records.{barred}
 use Rattle.record.specs.Checksum.{checksum}
-use Rattle.field.specs.Numbers.{spelled}
-use Rattle.field.specs.Judge.{bare}
-use Rattle.field.specs.Keys.{keyOrder}
-use Rattle.field.specs.declared.FieldType.{FieldType}
-use Rattle.field.specs.declared.FieldType.the-variants as types
-use Rattle.layout.specs.Layout.{Rule, Layout, row, mayFollow, kindNamed, isFooter}
-use Rattle.judge.specs.Fields.{also, fieldsFault}
-use Rattle.judge.specs.declared.Check.{Check}
-use Rattle.judge.specs.declared.Check.the-variants.{Fine, Fault}
-
--- the kind of a record, by its first field; 0 where the flow has no such kind
-abbrev pub kindOf : ℕ → Layout → List ℕ → ℕ
-kindOf sep l r = kindNamed l (field sep 1 r)
+use Rattle.layout.specs.Layout.{Layout, row}
+use Rattle.fault.specs.Record.{kindOf, keyIn, kindFault}
+use Rattle.fault.specs.declared.Check.{Check}
+use Rattle.fault.specs.declared.Check.the-variants.{Fault}
 
 -- the kind of the last of some records, 0 where there is none
 unfoldable pub lastKind : ℕ → Layout → List (List ℕ) → ℕ
 lastKind sep l [] = 0
 lastKind sep l (r ∷ []) = kindOf sep l r
 lastKind sep l (r ∷ q ∷ rs) = lastKind sep l (q ∷ rs)
-
--- the key of a record of kind k
-abbrev pub keyIn : ℕ → Layout → ℕ → List ℕ → List ℕ
-keyIn sep l k r = field sep (row l k .key) r
 
 -- the last key of kind k with one record more: a record that heads its set starts it anew, one of kind k has it
 unfoldable pub keyWith : ℕ → Layout → ℕ → List ℕ → List ℕ → List ℕ
@@ -41,55 +26,6 @@ keyWith sep l k old r = cond (eqb (kindOf sep l r) (row l k .head)) [] (cond (eq
 -- the last key of kind k since its set began; no bytes where there is none
 unfoldable pub keyBefore : ℕ → Layout → List (List ℕ) → ℕ → List ℕ
 keyBefore sep l before k = foldl (keyWith sep l k) [] before
-
--- the type of a kind's key field
-abbrev pub keyType : Layout → ℕ → FieldType
-keyType l k = (getD (row l k .rules) (row l k .key - 2) (record { type = types.Null; mark = bare })) .type
-
--- the key before stands below
-abbrev pub isBelow : Order → Bool
-isBelow Below = true
-isBelow Equal = false
-isBelow Above = false
-
--- keys ascend strictly: the first of a set has none before it, any other has one that stands below
-abbrev pub ascending : FieldType → List ℕ → List ℕ → Bool
-ascending t old key = eqb (length old) 0 || isBelow (keyOrder t old key)
-
--- 4 the kind is none of the flow's, 5 the grammar has no such kind here
-unfoldable pub placeFault : Layout → ℕ → ℕ → Check
-placeFault l last k =
-    must (not (eqb k 0)) (Fault 4 1)
-    (must (mayFollow l last k) (Fault 5 1)
-    Fine)
-
--- 6 wrong number of fields, then those from 2 on by their rules, 7 to 10
-unfoldable pub shapeFault : ℕ → List Rule → List ℕ → Check
-shapeFault sep rules r =
-    must (eqb (length (fields sep r)) (length rules + 1)) (Fault 6 0)
-    (fieldsFault rules (drop 1 (fields sep r)) 2)
-
--- 11 the key is not above the one before; a kind without a key has nothing to keep
-unfoldable pub keyFault : Layout → ℕ → List ℕ → List ℕ → Check
-keyFault l k old key = must (eqb (row l k .key) 0 || ascending (keyType l k) old key) (Fault 11 (row l k .key)) Fine
-
--- 12 record count wrong, 13 checksum wrong: of a footer with n records before it that have this sum
-unfoldable pub footerFault : ℕ → Layout → ℕ → ℕ → ℕ → List ℕ → Check
-footerFault sep l n sum k r =
-    cond (isFooter l k)
-    (must (spelled (n + 1) (field sep 2 r)) (Fault 12 2)
-    (must (spelled sum (field sep 3 r)) (Fault 13 3)
-    Fine))
-    Fine
-
--- the first fault of a record of kind k, where n records stand before it, the last of them of kind last, with this sum, and this
--- key before
-unfoldable pub kindFault : ℕ → Layout → ℕ → ℕ → ℕ → List ℕ → ℕ → List ℕ → Check
-kindFault sep l n last sum old k r =
-    also (placeFault l last k)
-    (also (shapeFault sep (row l k .rules) r)
-    (also (keyFault l k old (keyIn sep l k r))
-    (footerFault sep l n sum k r)))
 
 -- the checksum of the records before, their fields parted by bars
 abbrev pub sumOf : ℕ → List (List ℕ) → ℕ

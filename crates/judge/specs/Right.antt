@@ -9,7 +9,7 @@ use Rattle.text.specs.Order.{sameBytes}
 use Rattle.text.specs.declared.Order.the-variants.{Below}
 use Rattle.record.specs.Records.{records, fields, field}
 use Rattle.record.specs.Checksum.{checksum as sumOfRecords}
-use Rattle.field.specs.Numbers.{spelled}
+use Rattle.number.specs.Numbers.{spelled}
 use Rattle.field.specs.Judge.{fieldAnswer}
 use Rattle.field.specs.Keys.{keyOrder}
 use Rattle.field.specs.declared.FieldType.{FieldType}

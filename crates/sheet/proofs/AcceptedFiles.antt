@@ -14,14 +14,15 @@ use Rattle.record.proofs.Cutting.{neither, records-joined, records-free, joined
 use Rattle.record.proofs.Runs.{fields-some}
 use Rattle.record.proofs.Fields.{field-number}
 use Rattle.record.proofs.Pieces.{barred-bar}
-use Rattle.field.specs.Numbers.{spelled, decimal}
-use Rattle.field.proofs.Digits.{and-right}
-use Rattle.field.proofs.Spelling.{spelled-is}
+use Rattle.number.specs.Numbers.{spelled, decimal}
+use Rattle.number.proofs.Digits.{and-right}
+use Rattle.number.proofs.Spelling.{spelled-is}
 use Rattle.layout.specs.Layout.{Rule, Layout, row, isFooter}
 use Rattle.flow.specs.Letters.{ZPT}
-use Rattle.judge.specs.Record.{kindOf, lastKind, sumOf, footerFault}
+use Rattle.fault.specs.Record.{kindOf, footerFault}
+use Rattle.judge.specs.Record.{lastKind, sumOf}
 use Rattle.judge.specs.File.{bar, checkedFrom, endsInFeed, ended, finish, judgedBy}
-use Rattle.judge.specs.declared.Check.the-variants.{Fine, Fault}
+use Rattle.fault.specs.declared.Check.the-variants.{Fine, Fault}
 use Rattle.judge.specs.declared.Verdict.{Verdict}
 use Rattle.judge.specs.declared.Verdict.the-variants.{Accepted, Refused}
 use Rattle.judge.proofs.Files.{last-snoc}

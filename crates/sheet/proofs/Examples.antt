@@ -11,18 +11,19 @@ use borrow.Author.Tests.{ltb-true}
 use Rattle.text.specs.Characters.{all, bytes, isDigit, isText}
 use Rattle.record.specs.Records.{joined, onto, records, fields, field, bar as barOf, barred, holds, Bytes}
 use Rattle.record.specs.Checksum.{words, addRecord, checksum, checksumOf}
-use Rattle.field.specs.Numbers.{minus, unsigned, plain, intForm, intValue, decForm, decValue, spelled, decimalIn, decimal}
-use Rattle.field.specs.Calendar.{leap, daysIn, isDay, isDate, isTime}
+use Rattle.number.specs.Numbers.{minus, unsigned, plain, intForm, intValue, decForm, decValue, spelled, decimalIn, decimal}
+use Rattle.number.specs.Calendar.{leap, daysIn, isDay, isDate, isTime}
 use Rattle.field.specs.Types.{textForm, form, range, valueOf}
 use Rattle.field.specs.Judge.{filled, fieldAnswer}
-use Rattle.field.proofs.Digits.{and-left, and-right}
-use Rattle.field.proofs.Spelling.{spelled-is}
+use Rattle.number.proofs.Digits.{and-left, and-right}
+use Rattle.number.proofs.Spelling.{spelled-is}
 use Rattle.layout.specs.Layout.{among, find}
 use Rattle.flow.specs.Letters.{ZPT, P0138001}
 use Rattle.flow.specs.Publication.{layoutFor}
 use Rattle.flow.specs.Flows.{flowNumber, flowNamed}
-use Rattle.judge.specs.Fields.{fieldFault, fieldsFault}
-use Rattle.judge.specs.Record.{lastKind, keyWith, keyBefore, placeFault, shapeFault, keyFault, footerFault, kindFault, fault}
+use Rattle.fault.specs.Fields.{fieldFault, fieldsFault}
+use Rattle.fault.specs.Record.{placeFault, shapeFault, keyFault, footerFault, kindFault}
+use Rattle.judge.specs.Record.{lastKind, keyWith, keyBefore, fault}
 use Rattle.judge.specs.File.{bar, checkedFrom, ended, judgedBy, verdict}
 use Rattle.judge.specs.declared.Verdict.the-variants as verdicts
 use Rattle.sheet.specs.Sheets.{tab, turned, footer, made, barLine, butLast, sheetOf}

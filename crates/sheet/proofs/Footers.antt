@@ -12,21 +12,22 @@ use Rattle.text.specs.Rules.{must}
 use Rattle.record.specs.Records.{onto, fields, holds, someHolds}
 use Rattle.record.proofs.Cutting.{neither, some-at}
 use Rattle.record.proofs.Fields.{field-number}
-use Rattle.field.specs.Numbers.{decimal, unsigned}
+use Rattle.number.specs.Numbers.{decimal, unsigned}
 use Rattle.field.specs.Types.{form, range, valueOf}
 use Rattle.field.specs.Judge.{fieldAnswer, filled}
-use Rattle.field.proofs.Digits.{plain-some}
-use Rattle.field.proofs.ByValue.{bare-is, no-sign}
-use Rattle.field.proofs.Spelling.{decimal-plain, decimal-digits, decimal-short, decimal-int, decimal-spelled}
+use Rattle.number.proofs.Digits.{plain-some}
+use Rattle.number.proofs.ByValue.{bare-is, no-sign}
+use Rattle.number.proofs.Spelling.{decimal-plain, decimal-digits, decimal-short, decimal-int, decimal-spelled}
 use Rattle.layout.specs.Layout.{KindRow, Layout, row, blank, find, mayFollow, kindNamed, isFooter}
 use Rattle.flow.specs.Letters.{ZPT}
 use Rattle.flow.specs.Publication.{int, layoutFor}
 use Rattle.flow.specs.Flows.{flows, flowAt, p0012}
-use Rattle.judge.specs.Fields.{also, fieldFault, fieldsFault}
-use Rattle.judge.specs.Record.{kindOf, lastKind, sumOf, placeFault, shapeFault, keyFault, footerFault, kindFault, fault}
+use Rattle.fault.specs.Fields.{also, fieldFault, fieldsFault}
+use Rattle.fault.specs.Record.{kindOf, placeFault, shapeFault, keyFault, footerFault, kindFault}
+use Rattle.judge.specs.Record.{lastKind, sumOf, fault}
 use Rattle.judge.specs.File.{bar}
-use Rattle.judge.specs.declared.Check.{Check}
-use Rattle.judge.specs.declared.Check.the-variants.{Fine, Fault}
+use Rattle.fault.specs.declared.Check.{Check}
+use Rattle.fault.specs.declared.Check.the-variants.{Fine, Fault}
 use Rattle.sheet.specs.Sheets.{tab, footer}
 use Rattle.sheet.proofs.Holding.{none-append, none-passing}
 

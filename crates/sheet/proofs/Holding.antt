@@ -8,7 +8,7 @@ use borrow.Author.Tests.{eqb-true, ne-eqb}
 use Rattle.text.specs.Characters.{all}
 use Rattle.record.specs.Records.{onto, records, fields, joined, holds, someHolds}
 use Rattle.record.proofs.Cutting.{neither}
-use Rattle.field.proofs.Digits.{and-left, and-right}
+use Rattle.number.proofs.Digits.{and-left, and-right}
 
 module _ (b : ℕ) where
   pub none-append : (x y : List ℕ) → holds b x ≡ false → holds b y ≡ false → holds b (x ++ y) ≡ false

@@ -11,10 +11,11 @@ use Rattle.record.proofs.Cutting.{neither}
 use Rattle.record.proofs.Bars.{fields-barred}
 use Rattle.record.proofs.Pieces.{barred-length, barred-bar}
 use Rattle.layout.specs.Layout.{Layout, row, kindNamed}
-use Rattle.judge.specs.Record.{kindOf, lastKind, keyWith, keyBefore, sumOf, shapeFault, footerFault, kindFault, fault}
+use Rattle.fault.specs.Record.{kindOf, shapeFault, footerFault, kindFault}
+use Rattle.judge.specs.Record.{lastKind, keyWith, keyBefore, sumOf, fault}
 use Rattle.judge.specs.File.{bar, atRecord, checkedFrom, finish}
-use Rattle.judge.specs.declared.Check.{Check}
-use Rattle.judge.specs.declared.Check.the-variants.{Fine, Fault}
+use Rattle.fault.specs.declared.Check.{Check}
+use Rattle.fault.specs.declared.Check.the-variants.{Fine, Fault}
 use Rattle.judge.specs.declared.Verdict.{Verdict}
 use Rattle.judge.specs.declared.Verdict.the-variants.{Accepted}
 use Rattle.sheet.specs.Sheets.{tab}

@@ -15,7 +15,7 @@ use Rattle.record.proofs.Cutting.{records-joined, records-free, records-le, joi
 use Rattle.layout.specs.Layout.{Layout, mayFollow}
 use Rattle.judge.specs.Record.{lastKind, sumOf, fault}
 use Rattle.judge.specs.File.{bar, atRecord, checkedFrom, endsInFeed, ended, finish, judgedBy}
-use Rattle.judge.specs.declared.Check.the-variants.{Fine, Fault}
+use Rattle.fault.specs.declared.Check.the-variants.{Fine, Fault}
 use Rattle.judge.specs.declared.Verdict.{Verdict}
 use Rattle.judge.specs.declared.Verdict.the-variants.{Accepted, Refused}
 use Rattle.judge.proofs.Files.{last-snoc}

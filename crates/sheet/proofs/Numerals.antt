@@ -5,8 +5,8 @@ use mathlib.Core.List.{List, [], _∷_, _++_, append-nil}
 use native.Mathlib.Omega.{arith}
 use lib.ListN.{length, length-append, set}
 use lib.Seq.{append-snoc}
-use Rattle.field.specs.Numbers.{decimal}
-use Rattle.field.proofs.Spelling.{decimal-one, decimal-more, decimal-short}
+use Rattle.number.specs.Numbers.{decimal}
+use Rattle.number.proofs.Spelling.{decimal-one, decimal-more, decimal-short}
 use Rattle.sheet.specs.Code.{put}
 use Rattle.sheet.proofs.Putting.{put-none, put-before, put-length}
 

@@ -13,20 +13,20 @@ use Rattle.text.specs.Rules.{must}
 use Rattle.record.specs.Records.{fields, field, holds, someHolds}
 use Rattle.record.proofs.Runs.{fields-some}
 use Rattle.record.proofs.Fields.{field-number}
-use Rattle.field.specs.Numbers.{minus, unsigned, plain, whole, places, isZero, intForm, decForm}
+use Rattle.number.specs.Numbers.{minus, unsigned, plain, whole, places, isZero, intForm, decForm}
 use Rattle.field.specs.Types.{form, range, valueOf, isNull, textForm, bolForm}
 use Rattle.field.specs.Judge.{mayBeEmpty, meetsMark, fieldAnswer, filled, refusalOf}
 use Rattle.field.specs.declared.FieldType.{FieldType}
 use Rattle.field.specs.declared.FieldType.the-variants as types
 use Rattle.field.specs.declared.FieldAnswer.{FieldAnswer}
 use Rattle.field.specs.declared.FieldAnswer.the-variants.{Refused, Empty}
-use Rattle.field.proofs.Digits.{and-left, and-right, plain-digits}
+use Rattle.number.proofs.Digits.{and-left, and-right, plain-digits}
 use Rattle.layout.specs.Layout.{Rule, Layout, row}
 use Rattle.layout.proofs.Names.{found-row}
-use Rattle.judge.specs.Fields.{fieldFault, fieldsFault}
-use Rattle.judge.specs.Record.{kindOf}
+use Rattle.fault.specs.Fields.{fieldFault, fieldsFault}
+use Rattle.fault.specs.Record.{kindOf}
 use Rattle.judge.specs.File.{bar}
-use Rattle.judge.specs.declared.Check.the-variants.{Fine}
+use Rattle.fault.specs.declared.Check.the-variants.{Fine}
 use Rattle.judge.proofs.RightEach.{Each, each-first, each-rest}
 use Rattle.judge.proofs.RightFields.{FineRecord, must-fine}
 use Rattle.sheet.specs.Sheets.{tab}

@@ -16,7 +16,7 @@ use Rattle.flow.specs.Flows.{held, flowNumber, flowNamed}
 use Rattle.judge.specs.Record.{lastKind, sumOf}
 use Rattle.judge.specs.Code.{summary}
 use Rattle.judge.specs.File.{bar, checkedFrom, verdict}
-use Rattle.judge.specs.declared.State.{State}
+use Rattle.fault.specs.declared.State.{State}
 use Rattle.judge.specs.declared.Verdict.the-variants.{Accepted, Refused}
 use Rattle.sheet.specs.Sheets.{tab, turned, made, barLine}
 use Rattle.sheet.specs.Write.{linesEnded, fitted, written}

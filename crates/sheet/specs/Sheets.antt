@@ -6,7 +6,7 @@ use lib.Dec.{eqb}
 use lib.ListN.{length}
 use Rattle.record.specs.Records.{records, joined, holds}
 use Rattle.record.specs.Checksum.{checksumOf}
-use Rattle.field.specs.Numbers.{decimal}
+use Rattle.number.specs.Numbers.{decimal}
 use Rattle.flow.specs.Letters.{ZPT}
 use Rattle.judge.specs.File.{bar, endsInFeed}
 

@@ -8,7 +8,7 @@ ghost use Prim.Native.Nat.{ℕ, _+_, _-_, _≤_, _<_};
 ghost use lib.Dec.{eqb};
 ghost use lib.ListN.{length, take, drop};
 ghost use Rattle.record.specs.Records.{records, joined, holds};
-ghost use Rattle.field.specs.Numbers.{decimal};
+ghost use Rattle.number.specs.Numbers.{decimal};
 ghost use Rattle.layout.specs.Numbers.{layoutOf};
 ghost use Rattle.sheet.specs.Sheets.{turnedByte, turned, footer as footerOf, barLine, butLast};
 ghost use Rattle.sheet.specs.Write.{linesEnded, Wrote};

@@ -6,15 +6,16 @@ use lib.IntN.{pos}
 use Rattle.text.specs.Characters.{bytes, isDigit, isText}
 use Rattle.record.specs.Records.{joined, onto, records, fields, field, extent, bar as barOf, barred}
 use Rattle.record.specs.Checksum.{words, addRecord, checksum}
-use Rattle.field.specs.Numbers.{minus, unsigned, plain, intForm, intValue, decForm, decValue, spelled}
-use Rattle.field.specs.Calendar.{leap, daysIn, isDay, isDate, isTime}
+use Rattle.number.specs.Numbers.{minus, unsigned, plain, intForm, intValue, decForm, decValue, spelled}
+use Rattle.number.specs.Calendar.{leap, daysIn, isDay, isDate, isTime}
 use Rattle.field.specs.Types.{textForm, form, range, valueOf}
 use Rattle.field.specs.Judge.{filled, fieldAnswer}
 use Rattle.layout.specs.Layout.{among, find}
 use Rattle.flow.specs.Letters.{P0138001}
 use Rattle.flow.specs.Flows.{flowNumber}
-use Rattle.judge.specs.Fields.{fieldFault, fieldsFault}
-use Rattle.judge.specs.Record.{lastKind, keyWith, keyBefore, placeFault, shapeFault, keyFault, footerFault, kindFault, fault}
+use Rattle.fault.specs.Fields.{fieldFault, fieldsFault}
+use Rattle.fault.specs.Record.{placeFault, shapeFault, keyFault, footerFault, kindFault}
+use Rattle.judge.specs.Record.{lastKind, keyWith, keyBefore, fault}
 use Rattle.judge.specs.File.{checkedFrom, ended, judgedBy, verdict}
 use Rattle.value.specs.Value.{isThere, placeOf, fieldValue, valueBy, valueIn, valued, Reply, refused, empty, number, text}
 

@@ -20,7 +20,7 @@ use Rattle.field.specs.declared.Mark.{Mark}
 use Rattle.layout.specs.Layout.{Rule, Layout, row}
 use Rattle.layout.specs.Numbers.{word, typeOf, fixedOf, ruleOf, layoutOf, RulesOf}
 use Rattle.layout.proofs.FieldRules.{rules-length, rule-at, type-is}
-use Rattle.judge.specs.Record.{kindOf}
+use Rattle.fault.specs.Record.{kindOf}
 use Rattle.judge.specs.File.{bar}
 use Rattle.value.specs.Value.{recordAt, isThere, placeOf, ruleFor, byRule, asValue, fieldValue, valueBy}
 use Rattle.value.specs.Code.{Placed}

@@ -15,7 +15,7 @@ use Rattle.field.specs.declared.FieldType.the-variants as types
 use Rattle.layout.specs.Layout.{Layout, Rule, row}
 use Rattle.flow.specs.Publication.{layoutFor}
 use Rattle.flow.specs.Flows.{flowNamed}
-use Rattle.judge.specs.Record.{kindOf}
+use Rattle.fault.specs.Record.{kindOf}
 use Rattle.judge.specs.File.{bar, verdict}
 use Rattle.judge.specs.declared.Verdict.{Verdict}
 use Rattle.judge.specs.declared.Verdict.the-variants as verdicts

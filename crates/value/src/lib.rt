@@ -86,7 +86,7 @@ fn value_by(t: &[u32], fixed: &[u8], f: &[u8], n: usize, k: usize) -> Value
             to: start + e,
         };
     }
-    let j = judge::kind_of(t, b'|', r);
+    let j = fault::kind_of(t, b'|', r);
     as_value(
         answer_by(t, fixed, j, k, &r[a..e]),
         n,

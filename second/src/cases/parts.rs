@@ -26,22 +26,8 @@ pub fn field(dice: &mut Dice) -> FieldCase {
         ("=", _) => bytes.clone(),
         _ => Vec::new(),
     };
-    let form = if dice.one_in(8) { wrong_width(dice) } else { spelled(form) };
+    let form = if dice.one_in(8) { wrong_width(dice) } else { form.spelling() };
     FieldCase { form, mark, fixed, bytes }
-}
-
-/// A type in document 01's spelling.
-pub fn spelled(form: Type) -> String {
-    match form {
-        Type::Text(n) => format!("text({})", n),
-        Type::Int(n) => format!("int({})", n),
-        Type::Dec(p, q) => format!("dec({},{})", p, q),
-        Type::Date => "date".to_string(),
-        Type::DateTime => "datetime".to_string(),
-        Type::Bol => "bol".to_string(),
-        Type::Period => "period".to_string(),
-        Type::Null => "null".to_string(),
-    }
 }
 
 /// A type with a width that is taken, the limits among them.

@@ -4,7 +4,7 @@
 
 use super::dice::Dice;
 use super::draft::Draft;
-use super::parts::{held_type, spelled, FieldCase};
+use super::parts::{held_type, FieldCase};
 use super::values::{bad_form, bad_range, good, one_too_wide, widest};
 use crate::field::{Mark, Type};
 use crate::flows::{published, Flow, Layout};
@@ -74,5 +74,5 @@ pub fn swept_field(turn: usize, dice: &mut Dice) -> FieldCase {
         _ => bytes.len(),
     };
     bytes.insert(place, (turn % 256) as u8);
-    FieldCase { form: spelled(form), mark: "-", fixed: Vec::new(), bytes }
+    FieldCase { form: form.spelling(), mark: "-", fixed: Vec::new(), bytes }
 }

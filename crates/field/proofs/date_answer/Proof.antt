@@ -4,7 +4,7 @@ use mir.Syntax.{w64}
 use mir.ValLaws.{toZ-ofZ}
 use borrow.Author.Tests.{not-true, not-false}
 use borrow.Author.Needs.{needs}
-use Rattle.field.specs.Numbers.{signed}
+use Rattle.number.specs.Numbers.{signed}
 use Rattle.field.specs.declared.FieldAnswer.the-variants.{Number}
 use Rattle.field.proofs.date_answer.Statement.{statement}
 use Rattle.field.proofs.date_answer.Tie as tie

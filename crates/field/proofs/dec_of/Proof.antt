@@ -7,7 +7,7 @@ use lib.Seq.{length-take-le}
 use borrow.Author.Needs.{needs}
 use Rattle.text.proofs.Lists.{rest}
 use Rattle.field.specs.Leaves.{pointedAnswer}
-use Rattle.field.proofs.Rules.{tests}
+use Rattle.number.proofs.Rules.{tests}
 use Rattle.field.proofs.dec_of.Statement.{statement}
 use Rattle.field.proofs.dec_of.Tie as tie
 

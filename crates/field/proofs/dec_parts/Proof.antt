@@ -6,10 +6,11 @@ use native.Mathlib.Omega.{arith}
 use lib.ListN.{length}
 use borrow.Author.Tests.{not-true, not-false}
 use borrow.Author.Needs.{needs}
-use Rattle.field.specs.Numbers.{plain}
-use Rattle.field.specs.Leaves.{leads, digitsAnswer, negativeZero, decAnswer}
+use Rattle.number.specs.Numbers.{plain}
+use Rattle.number.specs.Leaves.{leads}
+use Rattle.field.specs.Leaves.{digitsAnswer, negativeZero, decAnswer}
 use Rattle.field.proofs.Filled.{dec-long, dec-short, dec-zero}
-use Rattle.field.proofs.OnePass.{spelt-other, spelt-digits, spelt-number, room-18, room-two}
+use Rattle.number.proofs.OnePass.{spelt-other, spelt-digits, spelt-number, room-18, room-two}
 use Rattle.field.proofs.dec_parts.Statement.{statement}
 use Rattle.field.proofs.dec_parts.Tie as tie
 

@@ -8,7 +8,7 @@ use borrow.Author.Tests.{leb-true, not-true, not-false}
 use borrow.Author.Needs.{needs}
 use Rattle.text.specs.Characters.{from-to}
 use Rattle.field.specs.Types.{widthRight}
-use Rattle.field.proofs.Digits.{and-left}
+use Rattle.number.proofs.Digits.{and-left}
 use Rattle.field.proofs.dec_width.Statement.{statement}
 use Rattle.field.proofs.dec_width.Tie as tie
 

@@ -7,10 +7,11 @@ use lib.Dec.{eqb}
 use lib.ListN.{getD}
 use borrow.Author.Tests.{eq-eqb, ne-eqb, not-true, not-false}
 use borrow.Author.Needs.{needs}
-use Rattle.field.specs.Numbers.{plain}
-use Rattle.field.specs.Leaves.{leads, intAnswer}
+use Rattle.number.specs.Numbers.{plain}
+use Rattle.number.specs.Leaves.{leads}
+use Rattle.field.specs.Leaves.{intAnswer}
 use Rattle.field.proofs.Filled.{leads-some, int-long, int-short, zero-refused}
-use Rattle.field.proofs.OnePass.{room-18}
+use Rattle.number.proofs.OnePass.{room-18}
 use Rattle.field.proofs.int_of.Statement.{statement}
 use Rattle.field.proofs.int_of.Tie as tie
 

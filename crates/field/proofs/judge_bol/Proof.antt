@@ -2,7 +2,7 @@
 use borrow.Author.Needs.{needs}
 use Rattle.field.specs.Types.{form, range, valueOf, bolForm}
 use Rattle.field.specs.Judge.{filled}
-use Rattle.field.proofs.Rules.{tests}
+use Rattle.number.proofs.Rules.{tests}
 use Rattle.field.proofs.judge_bol.Statement.{statement}
 use Rattle.field.proofs.judge_bol.Tie as tie
 

@@ -9,11 +9,11 @@ use lib.IntN.{pos}
 use borrow.Author.Tests.{eq-eqb, ne-eqb}
 use borrow.Author.Needs.{needs}
 use Rattle.text.specs.Rules.{must}
-use Rattle.field.specs.Calendar.{isDate}
+use Rattle.number.specs.Calendar.{isDate}
 use Rattle.field.specs.Types.{form, range, valueOf}
 use Rattle.field.specs.Judge.{filled}
 use Rattle.field.specs.declared.FieldAnswer.the-variants.{Refused, Number}
-use Rattle.field.proofs.OnePass.{spelt-other, spelt-digits, spelt-number, spelt-small, room-18}
+use Rattle.number.proofs.OnePass.{spelt-other, spelt-digits, spelt-number, spelt-small, room-18}
 use Rattle.field.proofs.judge_date.Statement.{statement}
 use Rattle.field.proofs.judge_date.Tie as tie
 

@@ -1,7 +1,7 @@
 -- Only the empty field has the form of null. Assumes nothing.
 use Rattle.field.specs.Types.{form, range, valueOf}
 use Rattle.field.specs.Judge.{filled}
-use Rattle.field.proofs.Rules.{tests}
+use Rattle.number.proofs.Rules.{tests}
 use Rattle.field.proofs.judge_null.Statement.{statement}
 use Rattle.field.proofs.judge_null.Tie as tie
 

@@ -10,12 +10,13 @@ use borrow.Author.Needs.{needs}
 use Rattle.text.specs.Characters.{from-to}
 use Rattle.text.specs.Rules.{must}
 use Rattle.text.proofs.Lists.{rest}
-use Rattle.field.specs.Numbers.{minus}
-use Rattle.field.specs.Leaves.{leads, intAnswer}
+use Rattle.number.specs.Numbers.{minus}
+use Rattle.number.specs.Leaves.{leads}
+use Rattle.field.specs.Leaves.{intAnswer}
 use Rattle.field.specs.declared.FieldAnswer.the-variants.{Refused, Number}
-use Rattle.field.proofs.Digits.{minus-some}
+use Rattle.number.proofs.Digits.{minus-some}
 use Rattle.field.proofs.Filled.{period-below, period-starts, period-long, period-short}
-use Rattle.field.proofs.OnePass.{spelt-other, spelt-digits, spelt-number, room-18}
+use Rattle.number.proofs.OnePass.{spelt-other, spelt-digits, spelt-number, room-18}
 use Rattle.field.proofs.judge_period.Statement.{statement}
 use Rattle.field.proofs.judge_period.Tie as tie
 

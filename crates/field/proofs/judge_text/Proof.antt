@@ -11,7 +11,7 @@ use Rattle.field.specs.Types.{form, range, valueOf, textForm}
 use Rattle.field.specs.Judge.{bare, filled}
 use Rattle.field.specs.declared.FieldType.the-variants as types
 use Rattle.field.specs.declared.FieldAnswer.the-variants.{Text}
-use Rattle.field.proofs.Rules.{tests}
+use Rattle.number.proofs.Rules.{tests}
 use Rattle.field.proofs.judge_text.Statement.{statement}
 use Rattle.field.proofs.judge_text.Tie as tie
 

@@ -4,9 +4,9 @@ use mir.Syntax.{w64}
 use mir.ValLaws.{toZ-ofZ}
 use borrow.Author.Tests.{le-leb}
 use borrow.Author.Needs.{needs}
-use Rattle.field.specs.Numbers.{signed}
+use Rattle.number.specs.Numbers.{signed}
 use Rattle.field.specs.declared.FieldAnswer.the-variants.{Number}
-use Rattle.field.proofs.Rules.{tests}
+use Rattle.number.proofs.Rules.{tests}
 use Rattle.field.proofs.period_answer.Statement.{statement}
 use Rattle.field.proofs.period_answer.Tie as tie
 

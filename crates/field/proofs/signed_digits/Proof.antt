@@ -3,9 +3,9 @@ use mathlib.Core.Path.{sym, _∙_, ap}
 use mir.Syntax.{w64}
 use mir.ValLaws.{toZ-ofZ}
 use borrow.Author.Needs.{needs}
-use Rattle.field.specs.Numbers.{signed}
+use Rattle.number.specs.Numbers.{signed}
 use Rattle.field.specs.declared.FieldAnswer.the-variants.{Number}
-use Rattle.field.proofs.OnePass.{spelt-other, spelt-digits, spelt-number, spelt-small}
+use Rattle.number.proofs.OnePass.{spelt-other, spelt-digits, spelt-number, spelt-small}
 use Rattle.field.proofs.signed_digits.Statement.{statement}
 use Rattle.field.proofs.signed_digits.Tie as tie
 

@@ -1,5 +1,5 @@
 -- Each return is one end of the range. Assumes nothing.
-use Rattle.field.proofs.Rules.{tests}
+use Rattle.number.proofs.Rules.{tests}
 use Rattle.field.proofs.within.Statement.{statement}
 use Rattle.field.proofs.within.Tie as tie
 

@@ -5,7 +5,7 @@ use mathlib.Core.Path.{sym, _∙_}
 use denote.Ref.{now}
 use Rattle.layout.specs.Numbers.{layoutOf}
 use Rattle.judge.specs.File.{endsInFeed}
-use Rattle.judge.proofs.Leaves.{end-missing, feed-missing, end-right}
+use Rattle.judge.proofs.Ends.{end-missing, feed-missing, end-right}
 use Rattle.judge.proofs.ended.Statement.{statement}
 use Rattle.judge.proofs.ended.Tie as tie
 

@@ -1,7 +1,7 @@
 -- `ends_in_feed` is right: no bytes have no last one, and otherwise it looks at the last.
 use borrow.Author.Needs.{needs}
 use denote.Ref.{now}
-use Rattle.judge.proofs.Leaves.{empty-open}
+use Rattle.judge.proofs.Ends.{empty-open}
 use Rattle.judge.proofs.ends_in_feed.Statement.{statement}
 use Rattle.judge.proofs.ends_in_feed.Tie as tie
 

@@ -5,7 +5,7 @@ use mathlib.Core.Path.{sym, _∙_}
 use denote.Ref.{now}
 use Rattle.layout.specs.Numbers.{layoutOf}
 use Rattle.judge.specs.File.{endsInFeed}
-use Rattle.judge.proofs.Leaves.{feed-free, feed-needed}
+use Rattle.judge.proofs.Ends.{feed-free, feed-needed}
 use Rattle.judge.proofs.feed_right.Statement.{statement}
 use Rattle.judge.proofs.feed_right.Tie as tie
 

@@ -1,5 +1,5 @@
 -- A name that we hold no flow of is 1; else the flow's table decodes to its published layout. Assumes nothing.
-use mathlib.Core.Path.{_≡_, sym, ap, _∙_}
+use mathlib.Core.Path.{sym, ap, _∙_}
 use Prim.Native.Nat.{ℕ}
 use denote.Ref.{now}
 use Rattle.flow.specs.Publication.{layoutFor}

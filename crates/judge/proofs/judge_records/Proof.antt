@@ -8,7 +8,7 @@ use borrow.Author.Needs.{needs}
 use Rattle.record.specs.Step.{IsRecord}
 use Rattle.layout.specs.Numbers.{layoutOf}
 use Rattle.layout.proofs.Names.{kind-most}
-use Rattle.judge.specs.Code.{keyInSlots, Passed}
+use Rattle.fault.specs.Code.{keyInSlots, Passed}
 use Rattle.judge.proofs.Slots.{putIn}
 use Rattle.judge.proofs.Files.{Kept, kept-none, kept-next, kept-stop, kept-done, kind-small, inner, take-short}
 use Rattle.judge.proofs.judge_records.Statement.{statement}

@@ -1,7 +1,6 @@
 -- The type's code leads to the rule of that type. Assumes nothing.
-use mathlib.Core.Path.{_≡_, sym, _∙_, ap}
+use mathlib.Core.Path.{_∙_, ap}
 use Prim.Native.Nat.{ℕ, _/_, _%_}
-use native.Mathlib.Omega.{arith}
 use native.Mathlib.Nat.{mod-lt}
 use lib.Dec.{lit<}
 use borrow.Author.Needs.{needs}

@@ -3,7 +3,7 @@ use Prim.Native.Nat.{_+_}
 use mathlib.Core.Path.{_≡_}
 use native.Mathlib.Omega.{arith}
 use lib.ListN.{length}
-use Rattle.field.specs.Numbers.{decimal}
+use Rattle.number.specs.Numbers.{decimal}
 use Rattle.sheet.proofs.Numerals.{count-more, count-one, count-most}
 use Rattle.sheet.proofs.digit_count.Statement.{statement}
 use Rattle.sheet.proofs.digit_count.Tie as tie

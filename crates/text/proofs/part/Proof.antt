@@ -1,5 +1,4 @@
 -- The part ends where the bytes end. Assumes nothing.
-use mathlib.Core.Path.{_≡_, refl, sym, _∙_, ap}
 use native.Mathlib.Omega.{arith}
 use denote.Ref.{now}
 use Rattle.text.proofs.Parts.{part-past, part-rest, part-all}

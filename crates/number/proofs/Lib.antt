@@ -1,0 +1,6 @@
+pub mod Rules
+pub mod Signs
+pub mod Digits
+pub mod OnePass
+pub mod ByValue
+pub mod Spelling

@@ -1,0 +1,4 @@
+pub mod Numbers
+pub mod Calendar
+pub mod Order
+pub mod Leaves
