@@ -1,13 +1,26 @@
 // The bench: judges one file on standard input, and prints the verdict on one line.
+use judge::Verdict;
 use libc::STDIN_FILENO;
+ghost use mathlib.Core.Path.{_≡_};
+ghost use Rattle.judge.specs.File.{paper};
+ghost use Rattle.judge.specs.declared.Verdict.the-variants.{Refused};
+ghost use Rattle.bench.specs.Bench.{benched};
 
-// Refuses the whole.
-fn refuse(number: usize) {
-    stream::print_numbers(b"refused", number, 0, 0);
+// A refusal of the whole.
+fn refuse(number: usize) -> Verdict
+    ensures { λ v. ⌜ v ≡ Refused number 0 0 ⌝ }
+{
+    Verdict::Refused {
+        number: number,
+        record: 0,
+        field: 0,
+    }
 }
 
 // Judges the input: eight characters of flow, a line feed, then the file, at most 65,536 bytes of it.
-fn answer(input: &[u8]) {
+fn answer(input: &[u8]) -> Verdict
+    ensures { λ v. ⌜ paper v ≡ benched (now (input .entry)) ⌝ }
+{
     if input.len() < 9 {
         return refuse(1);
     }
@@ -21,12 +34,12 @@ fn answer(input: &[u8]) {
     if 65545 < input.len() {
         return refuse(2);
     }
-    stream::print_verdict(judge::judge(flow, &input[9..]));
+    judge::judge(flow, &input[9..])
 }
 
 // Reads one byte more than is taken, so that a file that is too long shows.
 fn main() {
     let mut input = [0u8; 65546];
     let n = io::read_full(STDIN_FILENO, &mut input);
-    answer(&input[..n]);
+    stream::print_verdict(answer(&input[..n]));
 }

@@ -1,10 +1,10 @@
 // A good file spoiled: one byte at a time is made another, the file is judged, and the byte is put back.
 use judge::Verdict;
 use libc::STDERR_FILENO;
-use std::num::wrapping_add_u64;
 ghost use mathlib.Core.Path.{_≡_};
-ghost use Prim.Native.Nat.{_<_};
+ghost use Prim.Native.Nat.{_+_, _*_, _^_, _≤_, _<_};
 ghost use lib.ListN.{length};
+ghost use Rattle.drill.specs.Drill.{passes, other as otherOf, spoilt, Counted};
 
 // Every how many places the file is spoiled, and by every how many of the other bytes.
 pub struct Plan {
@@ -12,9 +12,8 @@ pub struct Plan {
     pub bytes: usize,
 }
 
-// How many files were spoiled, and how many of these were refused and passed.
+// How many spoiled files were refused, and how many passed.
 pub struct Tally {
-    pub spoiled: u64,
     pub refused: u64,
     pub passed: u64,
 }
@@ -36,7 +35,9 @@ pub fn plan_for(size: usize) -> Plan
     }
 }
 
-fn accepts(flow: &[u8], file: &[u8]) -> bool {
+fn accepts(flow: &[u8], file: &[u8]) -> bool
+    ensures { λ r. ⌜ r ≡ passes (now (flow .entry)) (now (file .entry)) ⌝ }
+{
     match judge::judge(flow, file) {
         Verdict::Accepted(_) => true,
         Verdict::Refused {
@@ -48,32 +49,36 @@ fn accepts(flow: &[u8], file: &[u8]) -> bool {
 }
 
 // The byte that is d above b, past the highest counted on from 0.
-fn other(b: u8, d: usize) -> u8 {
+fn other(b: u8, d: usize) -> u8
+    ensures { λ r. ⌜ r ≡ otherOf b d ⌝ }
+{
     ((b as usize + d % 256) % 256) as u8
 }
 
 // Counts a spoiled file, and says at which place and by which byte it passed, if it did.
-fn count(t: Tally, passed: bool, at: usize, b: u8) -> Tally {
-    let spoiled = wrapping_add_u64(t.spoiled, 1);
+fn count(t: Tally, passed: bool, at: usize, b: u8) -> Tally
+    requires { ⌜ t .refused + t .passed < 2 ^ 63 ⌝ }
+    ensures { λ r. ⌜ Counted (t .refused) (t .passed) passed (r .refused) (r .passed) ⌝ }
+{
     if passed {
         stream::print_numbers(b"PASSED", at, b as usize, 0);
         return Tally {
-            spoiled: spoiled,
             refused: t.refused,
-            passed: wrapping_add_u64(t.passed, 1),
+            passed: t.passed + 1,
         };
     }
     Tally {
-        spoiled: spoiled,
-        refused: wrapping_add_u64(t.refused, 1),
+        refused: t.refused + 1,
         passed: t.passed,
     }
 }
 
-// Spoils one place by one other byte, and puts the byte back.
+// Spoils one place by one other byte, has the file judged, and puts the byte back.
 fn spoil(flow: &[u8], file: &mut [u8], at: usize, d: usize, t: Tally) -> Tally
     requires { ⌜ at < length (now file) ⌝ }
+    requires { ⌜ t .refused + t .passed < 2 ^ 63 ⌝ }
     ensures { λ _. ⌜ now (file .exit) ≡ now (file .entry) ⌝ }
+    ensures { λ r. ⌜ Counted (t .refused) (t .passed) (passes (now (flow .entry)) (spoilt (now (file .entry)) at d)) (r .refused) (r .passed) ⌝ }
 {
     let kept = file[at];
     let b = other(kept, d);
@@ -87,7 +92,9 @@ fn spoil(flow: &[u8], file: &mut [u8], at: usize, d: usize, t: Tally) -> Tally
 fn spoil_place(flow: &[u8], file: &mut [u8], at: usize, p: Plan, so_far: Tally) -> Tally
     requires { ⌜ at < length (now file) ⌝ }
     requires { ⌜ 0 < p .bytes ⌝ }
+    requires { ⌜ «so_far» .refused + «so_far» .passed < 2 ^ 62 ⌝ }
     ensures { λ _. ⌜ now (file .exit) ≡ now (file .entry) ⌝ }
+    ensures { λ r. ⌜ r .refused + r .passed ≤ «so_far» .refused + «so_far» .passed + 255 ⌝ }
 {
     let mut t = so_far;
     let mut d = 1;
@@ -115,10 +122,11 @@ fn progress(turn: usize, at: usize, size: usize) {
 // Spoils a good file at the places that the plan names.
 pub fn spoil_all(flow: &[u8], file: &mut [u8], p: Plan) -> Tally
     requires { ⌜ (0 < p .places) × (0 < p .bytes) ⌝ }
+    requires { ⌜ length (now file) ≤ 1048576 ⌝ }
     ensures { λ _. ⌜ now (file .exit) ≡ now (file .entry) ⌝ }
+    ensures { λ r. ⌜ r .refused + r .passed ≤ 255 * length (now (file .entry)) ⌝ }
 {
     let mut t = Tally {
-        spoiled: 0,
         refused: 0,
         passed: 0,
     };

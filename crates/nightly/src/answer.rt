@@ -8,21 +8,14 @@ use field::Mark;
 use flow::StepAnswer;
 use libc::STDOUT_FILENO;
 use sheet::Transfer;
+use stream::print_follow;
 use stream::print_numbers;
 use stream::print_transfer;
+use stream::print_truth;
 use stream::print_value;
 use stream::print_whole;
 use value::Value;
 ghost use Prim.Native.Nat.{_≤_};
-
-// A truth is printed as T or F.
-fn print_truth(truth: bool) {
-    if truth {
-        print_value(b"truth", b"T");
-    } else {
-        print_value(b"truth", b"F");
-    }
-}
 
 // The value of one field of a file.
 fn value_line(flow: &[u8], record: usize, field: usize, file: &[u8]) {
@@ -53,18 +46,6 @@ fn field_line(form: FieldType, mark: Mark, fixed: &[u8], bytes: &[u8]) {
 // The checksum of bytes.
 fn sum_line(bytes: &[u8]) {
     print_numbers(b"ok", 0, record::checksum(bytes) as usize, 0);
-}
-
-// The names of the kinds that may follow stand at the front of the bytes, three bytes each.
-fn print_follow(count: usize, complete: bool, follow: &[u8; 96])
-    requires { ⌜ count ≤ 32 ⌝ }
-{
-    let names = text::part(follow, 0, 3 * count);
-    if complete {
-        print_value(b"complete", names);
-    } else {
-        print_value(b"open", names);
-    }
 }
 
 // The step of the flow table through kinds.

@@ -1,14 +1,9 @@
 // The commands: each reads its words and files, and prints its answer.
 use crate::explain;
 use crate::files;
-use crate::files::Loaded;
 use crate::found;
 use crate::found::Refusal;
 use crate::say;
-use crate::word;
-use crate::word::Form;
-use crate::word::Marked;
-use crate::word::Number;
 use field::FieldAnswer;
 use field::FieldType;
 use field::Mark;
@@ -16,18 +11,26 @@ use flow::StepAnswer;
 use judge::Verdict;
 use libc::STDERR_FILENO;
 use sheet::Transfer;
-use std::num::wrapping_add_usize;
+use stream::Loaded;
 use stream::print_numbers;
+use stream::print_truth;
 use stream::print_value;
 use stream::print_whole;
 use text::same_bytes;
 use value::Value;
-ghost use Rattle.io.specs.Counts.{Counts};
+use words::Form;
+use words::Marked;
+use words::Number;
+ghost use Rattle.stream.specs.File.{Loads};
 
 const TAB: u8 = 0x09;
 
 const BAR: u8 = 0x7C;
 
+// The greatest RECORD and FIELD.
+const ASKED_LIMIT: usize = 1000000000;
+
+// Says how the rig is called.
 fn usage() {
     io::write_all(
         STDERR_FILENO,
@@ -36,20 +39,26 @@ fn usage() {
 }
 
 // Prints a refusal and the sentence on it.
-fn refuse(flow: &[u8], sep: u8, file: &[u8], r: Refusal) {
-    print_numbers(b"refused", r.number, r.record, r.field);
+fn refuse(flow: &[u8], sep: u8, file: &[u8], number: usize, record: usize, field: usize) {
+    print_numbers(b"refused", number, record, field);
+    let r = Refusal {
+        number: number,
+        record: record,
+        field: field,
+    };
     found::sentence(flow, sep, file, r);
 }
 
 // Reads the file that word i names.
 fn load_word(i: usize, room: &mut [u8]) -> Loaded
-    ensures { λ r. ⌜ Counts (r .size) (now (room .exit)) ⌝ }
+    ensures { λ r. ⌜ Loads (now (room .exit)) (r .read) (r .size) ⌝ }
 {
     let mut path = io::large_buffer();
     let n = os::arg(i, &mut path);
-    files::load(&path[..n], room)
+    stream::load(b"rig", &path[..n], room)
 }
 
+// Prints the verdict on a file.
 fn judge_bytes(flow: &[u8], file: &[u8]) {
     match judge::judge(flow, file) {
         Verdict::Accepted(records) => print_numbers(b"ok", 0, records, 0),
@@ -57,31 +66,18 @@ fn judge_bytes(flow: &[u8], file: &[u8]) {
             number,
             record,
             field,
-        } => refuse(
-            flow,
-            BAR,
-            file,
-            Refusal {
-                number: number,
-                record: record,
-                field: field,
-            },
-        ),
+        } => refuse(flow, BAR, file, number, record, field),
     }
 }
 
 // judge FLOW FILE
-fn judge_file(room: &mut [u8]) {
+fn judge_file(file: &[u8]) {
     let mut flow = io::large_buffer();
     let f = os::arg(2, &mut flow);
-    let loaded = load_word(3, room);
-    if !loaded.read {
-        return;
-    }
-    let size = loaded.size;
-    judge_bytes(&flow[..f], &room[..size]);
+    judge_bytes(&flow[..f], file);
 }
 
+// Writes a file from a sheet, whose fields are parted by tabs, or reads a sheet from a file.
 fn make(sep: u8, flow: &[u8], given: &[u8], out: &mut [u8]) -> Transfer {
     if sep == TAB {
         return sheet::write(flow, given, out);
@@ -110,6 +106,13 @@ fn store(bytes: &[u8]) -> bool {
     files::store(&path[..p], text::part(&beside, 0, n + 5), bytes)
 }
 
+// Whether word 4 names no file yet; if it does, that is said.
+fn out_is_free() -> bool {
+    let mut path = io::large_buffer();
+    let n = os::arg(4, &mut path);
+    files::is_free(&path[..n])
+}
+
 // Makes a file from a sheet, whose fields are parted by tabs, or a sheet from a file, and keeps it.
 fn transfer_bytes(sep: u8, flow: &[u8], given: &[u8], out: &mut [u8]) {
     match make(sep, flow, given, out) {
@@ -122,79 +125,39 @@ fn transfer_bytes(sep: u8, flow: &[u8], given: &[u8], out: &mut [u8]) {
             number,
             record,
             field,
-        } => refuse(
-            flow,
-            sep,
-            given,
-            Refusal {
-                number: number,
-                record: record,
-                field: field,
-            },
-        ),
+        } => refuse(flow, sep, given, number, record, field),
     }
 }
 
-// Whether word 4 names a file that is there.
-fn out_exists() -> bool {
-    let mut path = io::large_buffer();
-    let n = os::arg(4, &mut path);
-    files::exists(&path[..n])
-}
-
-// write FLOW SHEET OUT, read FLOW FILE OUT
-fn transfer(sep: u8, over: bool, room: &mut [u8], out: &mut [u8]) {
+// write FLOW SHEET OUT, read FLOW FILE OUT. With a word behind OUT, which is --over, it may be there.
+// The room has one byte more than a file may have.
+fn transfer(sep: u8, given: &[u8]) {
+    if os::arg_count() == 5 {
+        if !out_is_free() {
+            return;
+        }
+    }
     let mut flow = io::large_buffer();
     let f = os::arg(2, &mut flow);
-    if !over && out_exists() {
-        return files::complain(b"OUT is there already; with --over behind it, it is replaced");
-    }
-    let loaded = load_word(3, room);
-    if !loaded.read {
-        return;
-    }
-    let size = loaded.size;
-    transfer_bytes(sep, &flow[..f], &room[..size], out);
-}
-
-// Whether the last of six words is --over.
-fn is_over(count: usize) -> bool {
-    let mut last = io::large_buffer();
-    let n = os::arg(5, &mut last);
-    count == 6 && same_bytes(b"--over", &last[..n])
+    let mut out = [0u8; 1048577];
+    transfer_bytes(sep, &flow[..f], given, &mut out);
 }
 
 // The number that word i spells.
 fn number_word(i: usize) -> Number {
     let mut digits = io::large_buffer();
     let n = os::arg(i, &mut digits);
-    word::read_number(&digits[..n])
+    words::read_number(&digits[..n], 10, ASKED_LIMIT)
 }
 
-fn print_truth(truth: bool) {
-    if truth {
-        print_value(b"truth", b"T");
-    } else {
-        print_value(b"truth", b"F");
-    }
-}
-
+// Prints the value of one field of a file.
 fn value_bytes(flow: &[u8], file: &[u8], record: usize, field: usize) {
     match value::value_of(flow, file, record, field) {
         Value::Refused {
             number,
             record,
             field,
-        } => refuse(
-            flow,
-            BAR,
-            file,
-            Refusal {
-                number: number,
-                record: record,
-                field: field,
-            },
-        ),
+        } => refuse(flow, BAR, file, number, record, field),
         Value::Empty => print_value(b"empty", b""),
         Value::Number(n) => print_whole(n),
         Value::Truth(truth) => print_truth(truth),
@@ -206,38 +169,33 @@ fn value_bytes(flow: &[u8], file: &[u8], record: usize, field: usize) {
 }
 
 // value FLOW FILE RECORD FIELD
-fn value_of(room: &mut [u8]) {
-    let mut flow = io::large_buffer();
-    let f = os::arg(2, &mut flow);
+fn value_of(file: &[u8]) {
     let Number::Is(record) = number_word(4) else {
         return files::complain(b"RECORD is a whole number up to 1,000,000,000");
     };
     let Number::Is(field) = number_word(5) else {
         return files::complain(b"FIELD is a whole number up to 1,000,000,000");
     };
-    let loaded = load_word(3, room);
-    if !loaded.read {
-        return;
-    }
-    let size = loaded.size;
-    value_bytes(&flow[..f], &room[..size], record, field);
+    let mut flow = io::large_buffer();
+    let f = os::arg(2, &mut flow);
+    value_bytes(&flow[..f], file, record, field);
 }
 
-// Prints that a field is refused, the rule, what was found and the type.
-fn refuse_field(form: FieldType, bytes: &[u8], number: usize) {
+// Prints that a field is refused, the rule, what was found and what would be right.
+fn refuse_field(form: FieldType, mark: Mark, fixed: &[u8], bytes: &[u8], number: usize) {
     print_numbers(b"refused", number, 0, 0);
     say::put(b"The rule: ");
     explain::rule(number);
     say::put(b"; found ");
-    say::quoted(bytes);
-    say::put(b"; the field is ");
-    say::form(form);
+    say::found(bytes);
+    say::right_field(number, form, mark, fixed);
     say::put(b".\n");
 }
 
+// Prints what one field's bytes are by a type and its mark.
 fn field_bytes(form: FieldType, mark: Mark, fixed: &[u8], bytes: &[u8]) {
     match field::judge(form, mark, fixed, bytes) {
-        FieldAnswer::Refused(number) => refuse_field(form, bytes, number as usize),
+        FieldAnswer::Refused(number) => refuse_field(form, mark, fixed, bytes, number as usize),
         FieldAnswer::Empty => print_value(b"empty", b""),
         FieldAnswer::Number(n) => print_whole(n),
         FieldAnswer::Truth(truth) => print_truth(truth),
@@ -249,9 +207,10 @@ fn field_bytes(form: FieldType, mark: Mark, fixed: &[u8], bytes: &[u8]) {
 fn form_word() -> Form {
     let mut spelled = io::large_buffer();
     let n = os::arg(2, &mut spelled);
-    word::read_form(&spelled[..n])
+    words::read_form(&spelled[..n])
 }
 
+// Says which types there are.
 fn no_type() {
     files::complain(b"TYPE is text(n), int(n), dec(p,q), date, datetime, bol, period or null");
 }
@@ -266,6 +225,15 @@ fn bare_field() {
     field_bytes(form, Mark::Bare, b"", &bytes[..n]);
 }
 
+// The mark that a word spells: a fixed value stands behind its `=`.
+fn mark_of(spelled: &[u8]) -> Marked {
+    let first = text::part(spelled, 0, 1);
+    if same_bytes(first, b"=") {
+        return words::read_mark(first);
+    }
+    words::read_mark(spelled)
+}
+
 // field TYPE MARK BYTES
 fn marked_field() {
     let Form::Is(form) = form_word() else {
@@ -273,8 +241,8 @@ fn marked_field() {
     };
     let mut spelled = io::large_buffer();
     let m = os::arg(3, &mut spelled);
-    let Marked::Is(mark) = word::read_mark(&spelled[..m]) else {
-        return files::complain(b"MARK is opt, or = with the fixed value behind it");
+    let Marked::Is(mark) = mark_of(&spelled[..m]) else {
+        return files::complain(b"MARK is opt, = with the fixed value behind it, or - for none");
     };
     let mut bytes = io::large_buffer();
     let n = os::arg(4, &mut bytes);
@@ -282,50 +250,27 @@ fn marked_field() {
 }
 
 // sum FILE
-fn sum_file(room: &mut [u8]) {
-    let loaded = load_word(2, room);
-    if !loaded.read {
-        return;
-    }
-    let size = loaded.size;
-    if 1048576 < size {
+fn sum_file(file: &[u8]) {
+    if 1048576 < file.len() {
         return files::complain(b"FILE has more than 1,048,576 bytes");
     }
-    print_numbers(b"ok", 0, record::checksum(&room[..size]) as usize, 0);
+    print_numbers(b"ok", 0, record::checksum(file) as usize, 0);
 }
 
-// The kinds that may follow stand at the front of the bytes, three bytes each.
-fn print_follow(count: usize, complete: bool, follow: &[u8; 96]) {
-    let names = text::part(
-        follow,
-        0,
-        wrapping_add_usize(count, wrapping_add_usize(count, count)),
-    );
-    if complete {
-        print_value(b"complete", names);
-    } else {
-        print_value(b"open", names);
-    }
-}
-
+// Prints where a list of kinds leads.
 fn step_kinds(flow: &[u8], kinds: &[u8]) {
     let mut follow = [0u8; 96];
     match flow::step(flow, kinds, &mut follow) {
-        StepAnswer::Refused(number) => refuse(
-            flow,
-            BAR,
-            b"",
-            Refusal {
-                number: number as usize,
-                record: 0,
-                field: 0,
-            },
-        ),
+        StepAnswer::Refused(number) => refuse(flow, BAR, b"", number as usize, 0, 0),
         StepAnswer::Stopped(place) => {
             print_numbers(b"stopped", 0, place, 0);
-            say::put(b"The flow's grammar has no such kind at that place of the list.\n");
+            say::put(b"In kind ");
+            say::number(place);
+            say::put(b" of the list: ");
+            explain::rule(5);
+            say::put(b", and has three bytes.\n");
         }
-        StepAnswer::Through { count, complete } => print_follow(count, complete, &follow),
+        StepAnswer::Through { count, complete } => stream::print_follow(count, complete, &follow),
     }
 }
 
@@ -355,53 +300,119 @@ fn fits(i: usize) -> bool {
     os::errno() != libc::ENAMETOOLONG
 }
 
-// The commands that take one file or none.
-fn small_command(name: &[u8], count: usize, room: &mut [u8]) {
-    if count == 4 && same_bytes(name, b"judge") {
-        return judge_file(room);
+// Whether each word that a command can have is all there.
+fn all_fit() -> bool {
+    let mut i = 1;
+    while i < 6 {
+        if !fits(i) {
+            return false;
+        }
+        i += 1;
     }
-    if count == 6 && same_bytes(name, b"value") {
-        return value_of(room);
+    true
+}
+
+// Whether the call is of this command, with so many words, the program's own among them.
+fn is_call(name: &[u8], count: usize, command: &[u8], words: usize) -> bool {
+    if count != words {
+        return false;
     }
-    if count == 4 && same_bytes(name, b"field") {
+    same_bytes(name, command)
+}
+
+// The commands that take no file.
+fn word_command(name: &[u8], count: usize) {
+    if is_call(name, count, b"field", 4) {
         return bare_field();
     }
-    if count == 5 && same_bytes(name, b"field") {
+    if is_call(name, count, b"field", 5) {
         return marked_field();
     }
-    if count == 3 && same_bytes(name, b"sum") {
-        return sum_file(room);
-    }
-    if count == 4 && same_bytes(name, b"step") {
+    if is_call(name, count, b"step", 4) {
         return step_words();
     }
-    if count == 3 && same_bytes(name, b"explain") {
+    if is_call(name, count, b"explain", 3) {
         return explain_word();
     }
     usage();
 }
 
-// A command by its name and the number of words, the program's own among them.
-fn command(name: &[u8], count: usize, room: &mut [u8], out: &mut [u8]) {
-    let over = is_over(count);
-    if over || count == 5 {
-        if same_bytes(name, b"write") {
-            return transfer(TAB, over, room, out);
-        }
-        if same_bytes(name, b"read") {
-            return transfer(BAR, over, room, out);
+// Whether the last of six words is --over.
+fn ends_in_over(count: usize) -> bool {
+    if count != 6 {
+        return false;
+    }
+    let mut last = io::large_buffer();
+    let n = os::arg(5, &mut last);
+    same_bytes(b"--over", &last[..n])
+}
+
+// Whether the call writes a file: five words, or --over behind them.
+fn is_transfer(name: &[u8], count: usize) -> bool {
+    if count != 5 {
+        if !ends_in_over(count) {
+            return false;
         }
     }
-    small_command(name, count, room);
+    if same_bytes(name, b"write") {
+        return true;
+    }
+    same_bytes(name, b"read")
+}
+
+// Which word names the file that the call reads; 0 where it reads none.
+fn file_word(name: &[u8], count: usize) -> usize {
+    if is_call(name, count, b"sum", 3) {
+        return 2;
+    }
+    if is_call(name, count, b"judge", 4) {
+        return 3;
+    }
+    if is_call(name, count, b"value", 6) {
+        return 3;
+    }
+    if is_transfer(name, count) {
+        return 3;
+    }
+    0
+}
+
+// The commands that read a file.
+fn file_command(name: &[u8], file: &[u8]) {
+    if same_bytes(name, b"sum") {
+        return sum_file(file);
+    }
+    if same_bytes(name, b"judge") {
+        return judge_file(file);
+    }
+    if same_bytes(name, b"value") {
+        return value_of(file);
+    }
+    if same_bytes(name, b"write") {
+        return transfer(TAB, file);
+    }
+    transfer(BAR, file);
+}
+
+// A call by its name and the number of words, the program's own among them.
+fn command(name: &[u8], count: usize, room: &mut [u8]) {
+    let place = file_word(name, count);
+    if place == 0 {
+        return word_command(name, count);
+    }
+    let loaded = load_word(place, room);
+    if loaded.read {
+        let size = loaded.size;
+        file_command(name, &room[..size]);
+    }
 }
 
 // The call that the program's words make.
-pub fn run(room: &mut [u8], out: &mut [u8]) {
+pub fn run(room: &mut [u8]) {
+    if !all_fit() {
+        return files::complain(b"a word has more than 65,536 bytes");
+    }
     let mut name = io::large_buffer();
     let n = os::arg(1, &mut name);
-    if fits(1) && fits(2) && fits(3) && fits(4) && fits(5) {
-        command(&name[..n], os::arg_count(), room, out);
-    } else {
-        files::complain(b"a word has more than 65,536 bytes");
-    }
+    command(&name[..n], os::arg_count(), room);
 }

@@ -25,16 +25,21 @@ fn late_rule(n: usize) {
         11 => say::put(b"a key is above the one before it in its set"),
         12 => say::put(b"the footer counts all records from the first to itself, both included"),
         13 => say::put(
-            b"the footer's checksum is the exclusive-or of the 4-byte pieces of all records before it",
+            b"the footer's checksum is the exclusive-or of the 4-byte pieces of all records before it, first byte highest, the last piece of a record filled with zero bytes",
         ),
         14 => say::put(b"the records end with ZPT, the footer"),
-        15 => say::put(b"the last line ends in a line feed (hex 0A)"),
+        15 => say::put(
+            b"a line feed (hex 0A) ends the last line of a sheet, and of a file in P0012001 and P0181002",
+        ),
         16 => say::put(b"a sheet has no bar: its fields are parted by tabs"),
         17 => say::put(b"the output has room for the whole result"),
-        _ => say::put(b"what is asked is there, and a width is one that its type may have"),
+        _ => say::put(
+            b"the record and field that are asked are there; a width is 1 to 512 for text, 1 to 18 for int, and for dec 2 to 18 and then 1 to one less",
+        ),
     }
 }
 
+// The rule that refusal n holds up.
 pub fn rule(n: usize) {
     if n < 10 {
         early_rule(n);

@@ -5,11 +5,9 @@ mod explain;
 mod files;
 mod found;
 mod say;
-mod word;
 
-// Two rooms of one byte more than a file may have, so that a file that is too long shows.
+// One byte more than a file may have, so that a file that is too long shows.
 fn main() {
-    let mut file = [0u8; 1048577];
-    let mut out = [0u8; 1048577];
-    command::run(&mut file, &mut out);
+    let mut room = [0u8; 1048577];
+    command::run(&mut room);
 }

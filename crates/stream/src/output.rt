@@ -89,6 +89,27 @@ pub fn print_value(kind: &[u8], value: &[u8]) {
     io::write_all(STDOUT_FILENO, &line[..at]);
 }
 
+// Writes the line of a value that is a truth, as T or F.
+pub fn print_truth(truth: bool) {
+    if truth {
+        print_value(b"truth", b"T");
+    } else {
+        print_value(b"truth", b"F");
+    }
+}
+
+// Writes the line of the kinds that may follow, whose names stand at the front of the bytes, three bytes each.
+pub fn print_follow(count: usize, complete: bool, follow: &[u8; 96])
+    requires { ⌜ count ≤ 32 ⌝ }
+{
+    let names = text::part(follow, 0, 3 * count);
+    if complete {
+        print_value(b"complete", names);
+    } else {
+        print_value(b"open", names);
+    }
+}
+
 // The size of a whole number; below zero it is one more than that of the flipped bits.
 fn size(n: i64) -> u64
     ensures { λ r. ⌜ r ≡ natAbs n ⌝ }

@@ -1,8 +1,10 @@
--- `spoil` puts back the byte that it took away.
+-- `spoil` puts back the byte that it took away, and counts what the judge said of the file without it.
 use lib.Seq.{set-set, set-getD}
 use lib.ListN.{getD, set}
 use mathlib.Core.List.{List}
-use mathlib.Core.Path.{_≡_, _∙_}
+use mathlib.Core.Path.{_≡_, _∙_, ap}
+use denote.Ref.{now}
+use Rattle.drill.specs.Drill.{passes}
 use Prim.Native.Nat.{ℕ}
 use borrow.Author.Needs.{needs}
 use Rattle.drill.proofs.drill.spoil.Statement.{statement}
@@ -34,7 +36,10 @@ put-back : (l : List ℕ) (i a : ℕ) → set (set l i a) i (getD l i 0) ≡ l
 put-back l i a = set-set l i a (getD l i 0) ∙ set-getD l i 0
 
 returns : tie.Need-returns
-returns c = put-back _ _ _
+returns c =
+    let a = c .before .before .before .before .before .before .before .args in
+    let judged = c .before .accepts .ensures ∙ ap (λ (b : ℕ). passes (now (a .flow)) (set (now (a .file)) (a .at) b)) (c .before .before .before .other .ensures) in
+    (put-back _ _ _, rw judged at (c .count .ensures))
 
 pub spoil-spec : {M : Type 1} → statement M
 spoil-spec =

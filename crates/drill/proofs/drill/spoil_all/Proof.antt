@@ -1,13 +1,14 @@
 -- `spoil_all` ends, as each turn goes on to a higher place, and leaves the file as it was, as each turn does.
 use lib.ListN.{length}
-use mathlib.Core.Path.{_≡_, _∙_, refl}
-use Prim.Native.Nat.{_-_}
+use mathlib.Core.Path.{_≡_, _∙_, ap}
+use Prim.Native.Nat.{_+_, _-_, _*_, _≤_}
 use borrow.Author.Needs.{needs}
 use Rattle.drill.proofs.drill.spoil_all.Statement.{statement}
 use Rattle.drill.proofs.drill.spoil_all.Tie as tie
 
 abbrev Inv-loop : tie.InvT-loop
-Inv-loop flow file₀ p t₀ at₀ file t at = (file ≡ file₀) × (length file ≡ length file₀)
+Inv-loop flow file₀ p t₀ at₀ file t at =
+    (file ≡ file₀) × (length file ≡ length file₀) × (at ≤ length file₀) × (t .refused + t .passed ≤ 255 * at)
 
 abbrev μ-loop : tie.MeasureT-loop
 μ-loop flow file₀ p t₀ at₀ file t at = length file₀ - at
@@ -40,7 +41,10 @@ loop-less : tie.Need-loop-less Inv-loop μ-loop
 loop-less c = search needs
 
 loop-again : tie.Need-loop-again Inv-loop μ-loop
-loop-again c = search needs
+loop-again c =
+    let s = c .before .before .before .before .before .spoil-place in
+    let same = s .ensures .0 ∙ c .before .before .before .before .before .before .before .before .before .before .loop .inv .0 in
+    (same, ap length same, search needs, search needs)
 
 same-length-2 : tie.Need-same-length-2 Inv-loop μ-loop
 same-length-2 c = search needs

@@ -29,47 +29,11 @@ mark-at-requires c κs = omega (arith, c .before .before .before .before .rules-
 fixed-at-requires : tie.Need-fixed-at-requires
 fixed-at-requires c κs = omega (arith, c .before .before .before .before .before .rules-of .ensures [] .within)
 
-slice-aggregate-put : tie.Need-slice-aggregate-put
-slice-aggregate-put c = search needs
-
-put-requires : tie.Need-put-requires
-put-requires c κs = search needs
-
-form-requires : tie.Need-form-requires
-form-requires c κs = search needs
-
-enum-told : tie.Need-enum-told
-enum-told c = search needs
-
-enum-told-2 : tie.Need-enum-told-2
-enum-told-2 c = search needs
-
-slice-aggregate-put-2 : tie.Need-slice-aggregate-put-2
-slice-aggregate-put-2 c = search needs
-
-put-requires-2 : tie.Need-put-requires-2
-put-requires-2 c κs = search needs
-
-enum-told-3 : tie.Need-enum-told-3
-enum-told-3 c = search needs
-
-slice-aggregate-put-3 : tie.Need-slice-aggregate-put-3
-slice-aggregate-put-3 c = search needs
-
-put-requires-3 : tie.Need-put-requires-3
-put-requires-3 c κs = search needs
-
-put-requires-4 : tie.Need-put-requires-4
-put-requires-4 c κs = search needs
+right-field-requires : tie.Need-right-field-requires
+right-field-requires c κs = search needs
 
 returns-3 : tie.Need-returns-3
 returns-3 c = search needs
-
-returns-4 : tie.Need-returns-4
-returns-4 c = search needs
-
-returns-5 : tie.Need-returns-5
-returns-5 c = search needs
 
 pub say-rule-spec : {M : Type 1} → statement M
 say-rule-spec =
@@ -83,17 +47,5 @@ say-rule-spec =
     type-at-requires
     mark-at-requires
     fixed-at-requires
-    slice-aggregate-put
-    put-requires
-    form-requires
-    enum-told
-    enum-told-2
-    slice-aggregate-put-2
-    put-requires-2
-    enum-told-3
-    slice-aggregate-put-3
-    put-requires-3
-    put-requires-4
-    returns-3
-    returns-4
-    returns-5)
+    right-field-requires
+    returns-3)

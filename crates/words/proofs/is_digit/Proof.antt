@@ -1,0 +1,19 @@
+-- Each return is one end of the range. Assumes nothing.
+use borrow.Author.Needs.{needs}
+use borrow.Author.Tests.{le-leb, lt-leb}
+use mathlib.Core.Path.{sym}
+use Rattle.text.specs.Characters.{isDigit}
+use Rattle.number.proofs.Rules.{tests}
+use Rattle.words.proofs.is_digit.Statement.{statement}
+use Rattle.words.proofs.is_digit.Tie as tie
+
+returns : tie.Need-returns
+unfolding isDigit
+returns c = search tests
+
+returns-2 : tie.Need-returns-2
+unfolding isDigit
+returns-2 c = search tests
+
+pub is-digit-spec : {M : Type 1} → statement M
+is-digit-spec = tie.close (tie.spec returns returns-2)
