@@ -1,13 +1,15 @@
 // Times the screen and the peer side by side on good files of each flow. Prints a line for each flow, part and size: flow,
-// part, bytes of the file, and the best time of one call in nanoseconds, of the peer and of the screen, parted by tabs. Both
-// must give the same answers and bytes, or the program ends with status 1.
+// part, bytes of the file, and the best time of one call in nanoseconds, of the peer and of the screen, parted by tabs. All
+// files are gone through several times, since a machine that others share is slow for seconds at a time. Both must give the
+// same answers and bytes, or the program ends with status 1.
 #include "peer.h"
 #include "../include/screen.h"
 
 #define MOST 1048576
 #define LINE 128
-// How long the rounds of one line go on, and how much one round takes at least.
-#define LINE_NS 300000000.0
+// How often all files are gone through, how long the rounds of one line go on each time, and how much one round takes at least.
+#define PASSES 6
+#define LINE_NS 60000000.0
 #define ROUND_BYTES 262144
 
 typedef unsigned char byte;
@@ -144,19 +146,22 @@ static int same(void) {
         && !memcmp(peer_out, screen_out, peer_said.bytes);
 }
 
-// Best of many rounds, the two taken in turn. 0 where their answers differ.
-static int time_part(size_t p) {
-    double peer = 1e18, screen = 1e18, began = now();
+// The best times of one flow, part and size.
+struct times { size_t bytes; double peer, screen; };
+
+// Many rounds, the two taken in turn. 0 where their answers differ.
+static int time_part(size_t p, struct times *best) {
+    double began = now();
     unsigned calls = file_len < ROUND_BYTES ? ROUND_BYTES / file_len : 1;
     parts[p].peer();
     parts[p].screen();
     if (!same()) return 0;
+    best->bytes = file_len;
     for (int round = 0; round < 5 || now() - began < LINE_NS; round++) {
         double a = time_of(parts[p].peer, calls), b = time_of(parts[p].screen, calls);
-        if (a < peer) peer = a;
-        if (b < screen) screen = b;
+        if (best->peer == 0 || a < best->peer) best->peer = a;
+        if (best->screen == 0 || b < best->screen) best->screen = b;
     }
-    printf("%.8s\t%s\t%zu\t%.0f\t%.0f\n", (const char *)name, parts[p].name, file_len, peer, screen);
     return 1;
 }
 
@@ -172,17 +177,34 @@ static int make(const struct flow *f, size_t size) {
     return !a.refused;
 }
 
-int main(void) {
-    static const size_t sizes[] = { 65536, 262144, 1048000 };
-    for (size_t i = 0; i < sizeof flows / sizeof *flows; i++) {
+#define COUNT(a) (sizeof(a) / sizeof *(a))
+
+static const size_t sizes[] = { 65536, 262144, 1048000 };
+static struct times best[COUNT(flows)][COUNT(sizes)][COUNT(parts)];
+
+// Each flow's files once; a size of which a flow has no file is left out.
+static int pass(void) {
+    for (size_t i = 0; i < COUNT(flows); i++) {
         size_t before = 0;
-        for (size_t j = 0; j < sizeof sizes / sizeof *sizes; j++) {
-            if (!make(&flows[i], sizes[j])) return 1;
+        for (size_t j = 0; j < COUNT(sizes); j++) {
+            if (!make(&flows[i], sizes[j])) return 0;
             if (file_len == before) break;
             before = file_len;
-            for (size_t p = 0; p < sizeof parts / sizeof *parts; p++)
-                if (!time_part(p)) return 1;
+            for (size_t p = 0; p < COUNT(parts); p++)
+                if (!time_part(p, &best[i][j][p])) return 0;
         }
     }
+    return 1;
+}
+
+int main(void) {
+    for (int i = 0; i < PASSES; i++)
+        if (!pass()) return 1;
+    for (size_t i = 0; i < COUNT(flows); i++)
+        for (size_t j = 0; j < COUNT(sizes); j++)
+            for (size_t p = 0; p < COUNT(parts); p++) {
+                struct times t = best[i][j][p];
+                if (t.bytes) printf("%.8s\t%s\t%zu\t%.0f\t%.0f\n", flows[i].name, parts[p].name, t.bytes, t.peer, t.screen);
+            }
     return 0;
 }
