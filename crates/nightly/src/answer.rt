@@ -15,7 +15,8 @@ use stream::print_truth;
 use stream::print_value;
 use stream::print_whole;
 use value::Value;
-ghost use Prim.Native.Nat.{_≤_};
+ghost use mathlib.Core.Path.{_≡_};
+ghost use Prim.Native.Nat.{_≤_, min};
 
 // The value of one field of a file.
 fn value_line(flow: &[u8], record: usize, field: usize, file: &[u8]) {
@@ -90,7 +91,7 @@ fn read_line(flow: &[u8], file: &[u8], room: &mut [u8]) {
 
 // As many bytes as are asked, or as the room has.
 fn least(a: usize, b: usize) -> usize
-    ensures { λ r. ⌜ r ≤ b ⌝ }
+    ensures { λ r. ⌜ (r ≡ min a b) × (r ≤ b) ⌝ }
 {
     if a < b { a } else { b }
 }

@@ -1,12 +1,21 @@
 // The room that is lent for a result. It holds a pattern before, which the bytes past the result must keep.
 
+ghost use mathlib.Core.Path.{_≡_};
+ghost use mathlib.Core.Bool.{cond};
+ghost use lib.ListN.{drop};
+ghost use Rattle.nightly.specs.Room.{pattern as patternOf, patterned, Filled};
+
 // The pattern's byte at a place.
-fn pattern(place: usize) -> u8 {
+fn pattern(place: usize) -> u8
+    ensures { λ r. ⌜ r ≡ patternOf place ⌝ }
+{
     ((place % 256 * 167 + 13) % 256) as u8
 }
 
 // Fills the room with the pattern.
-pub fn fill(room: &mut [u8]) {
+pub fn fill(room: &mut [u8])
+    ensures { λ _. ⌜ Filled (now (room .entry)) (now (room .exit)) ⌝ }
+{
     let mut i = 0;
     while i < room.len() {
         room[i] = pattern(i);
@@ -15,7 +24,9 @@ pub fn fill(room: &mut [u8]) {
 }
 
 // 1 where the room holds the pattern from a place on, else 0.
-pub fn kept(room: &[u8], at: usize) -> usize {
+pub fn kept(room: &[u8], at: usize) -> usize
+    ensures { λ r. ⌜ r ≡ cond (patterned at (drop at (now (room .entry)))) 1 0 ⌝ }
+{
     let mut i = at;
     while i < room.len() {
         if room[i] != pattern(i) {

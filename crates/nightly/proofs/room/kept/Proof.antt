@@ -1,18 +1,21 @@
--- `kept` is safe and ends: its index rises to the end of the room.
+-- `kept` is right: the bytes passed held the pattern, so that those left decide. Assumes nothing.
 use Prim.Native.Nat.{_-_}
-use lib.ListN.{length}
+use mathlib.Core.Path.{_≡_, refl, sym, _∙_}
+use lib.ListN.{length, drop}
 use borrow.Author.Needs.{needs}
+use Rattle.nightly.specs.Room.{patterned}
+use Rattle.nightly.proofs.Rooms.{kept-fails, kept-next, kept-end}
 use Rattle.nightly.proofs.room.kept.Statement.{statement}
 use Rattle.nightly.proofs.room.kept.Tie as tie
 
 abbrev Inv-loop : tie.InvT-loop
-Inv-loop room at i₀ i = Unit {0}
+Inv-loop room at i₀ i = patterned i (drop i room) ≡ patterned at (drop at room)
 
 abbrev μ-loop : tie.MeasureT-loop
 μ-loop room at i₀ i = length room - i
 
 loop-holds : tie.Need-loop-holds Inv-loop μ-loop
-loop-holds c = search needs
+loop-holds c = refl
 
 shared-slice-read-if1 : tie.Need-shared-slice-read-if1 Inv-loop μ-loop
 shared-slice-read-if1 c = search needs
@@ -21,7 +24,9 @@ pattern-requires : tie.Need-pattern-requires Inv-loop μ-loop
 pattern-requires c κs = search needs
 
 returns : tie.Need-returns Inv-loop μ-loop
-returns c = search needs
+returns c =
+    let l = c .before .before .before .before .loop in
+    rw (sym (l .inv) ∙ kept-fails _ (l .i) (c .before .before .before .loop-test .taken) (λ e. c .if1 .taken (e ∙ sym (c .before .pattern .ensures))))
 
 add-i : tie.Need-add-i Inv-loop μ-loop
 add-i c = search needs
@@ -30,10 +35,14 @@ loop-less : tie.Need-loop-less Inv-loop μ-loop
 loop-less c = search needs
 
 loop-again : tie.Need-loop-again Inv-loop μ-loop
-loop-again c = search needs
+loop-again c =
+    let l = c .before .before .before .before .loop in
+    kept-next _ (l .i) (c .before .before .before .loop-test .taken) (c .if1 .left ∙ c .before .pattern .ensures) ∙ l .inv
 
 returns-2 : tie.Need-returns-2 Inv-loop μ-loop
-returns-2 c = search needs
+returns-2 c =
+    let l = c .before .loop in
+    rw (sym (l .inv) ∙ kept-end _ (l .i) (c .loop-test .left))
 
 pub kept-spec : {M : Type 1} → statement M
 kept-spec =
