@@ -8,6 +8,15 @@ ghost use lib.IntN.{natAbs};
 ghost use lib.Seq.{paste};
 ghost use Rattle.io.specs.Counts.{Counts};
 
+// Writes bytes to standard output; where they can't all be written, that is said.
+pub fn print(bytes: &[u8]) -> bool {
+    if io::write_all(STDOUT_FILENO, bytes) {
+        return true;
+    }
+    os::fail(b"can't write standard output");
+    false
+}
+
 // The smaller of two numbers.
 fn least(a: usize, b: usize) -> usize
     ensures { λ r. ⌜ r ≡ min a b ⌝ }
@@ -44,18 +53,18 @@ fn put_number(line: &mut [u8], at: usize, n: usize) -> usize
 }
 
 // Writes a line of a word and three numbers.
-pub fn print_numbers(word: &[u8], a: usize, b: usize, c: usize) {
+pub fn print_numbers(word: &[u8], a: usize, b: usize, c: usize) -> bool {
     let mut line = [0u8; 128];
     let at = put(&mut line, 0, word);
     let at = put_number(&mut line, at, a);
     let at = put_number(&mut line, at, b);
     let at = put_number(&mut line, at, c);
     let at = put(&mut line, at, b"\n");
-    io::write_all(STDOUT_FILENO, &line[..at]);
+    print(&line[..at])
 }
 
 // Writes a line of a word and four numbers.
-pub fn print_transfer(word: &[u8], a: usize, b: usize, c: usize, d: usize) {
+pub fn print_transfer(word: &[u8], a: usize, b: usize, c: usize, d: usize) -> bool {
     let mut line = [0u8; 128];
     let at = put(&mut line, 0, word);
     let at = put_number(&mut line, at, a);
@@ -63,11 +72,11 @@ pub fn print_transfer(word: &[u8], a: usize, b: usize, c: usize, d: usize) {
     let at = put_number(&mut line, at, c);
     let at = put_number(&mut line, at, d);
     let at = put(&mut line, at, b"\n");
-    io::write_all(STDOUT_FILENO, &line[..at]);
+    print(&line[..at])
 }
 
 // Writes the line of a verdict on a file.
-pub fn print_verdict(v: Verdict) {
+pub fn print_verdict(v: Verdict) -> bool {
     match v {
         Verdict::Accepted(records) => print_numbers(b"ok", 0, records, 0),
         Verdict::Refused {
@@ -79,34 +88,34 @@ pub fn print_verdict(v: Verdict) {
 }
 
 // Writes a line of `ok`, 0, the kind of a value and the value, which has at most 512 bytes.
-pub fn print_value(kind: &[u8], value: &[u8]) {
+pub fn print_value(kind: &[u8], value: &[u8]) -> bool {
     let mut line = [0u8; 640];
     let at = put(&mut line, 0, b"ok\t0\t");
     let at = put(&mut line, at, kind);
     let at = put(&mut line, at, b"\t");
     let at = put(&mut line, at, value);
     let at = put(&mut line, at, b"\n");
-    io::write_all(STDOUT_FILENO, &line[..at]);
+    print(&line[..at])
 }
 
 // Writes the line of a value that is a truth, as T or F.
-pub fn print_truth(truth: bool) {
+pub fn print_truth(truth: bool) -> bool {
     if truth {
-        print_value(b"truth", b"T");
+        print_value(b"truth", b"T")
     } else {
-        print_value(b"truth", b"F");
+        print_value(b"truth", b"F")
     }
 }
 
 // Writes the line of the kinds that may follow, whose names stand at the front of the bytes, three bytes each.
-pub fn print_follow(count: usize, complete: bool, follow: &[u8; 96])
+pub fn print_follow(count: usize, complete: bool, follow: &[u8; 96]) -> bool
     requires { ⌜ count ≤ 32 ⌝ }
 {
     let names = text::part(follow, 0, 3 * count);
     if complete {
-        print_value(b"complete", names);
+        print_value(b"complete", names)
     } else {
-        print_value(b"open", names);
+        print_value(b"open", names)
     }
 }
 
@@ -121,15 +130,15 @@ fn size(n: i64) -> u64
 }
 
 // Writes the line of a value that is a whole number.
-pub fn print_whole(n: i64) {
+pub fn print_whole(n: i64) -> bool {
     let mut digits = [0u8; 20];
     let k = io::decimal(size(n), &mut digits);
     let mut value = [0u8; 21];
     if n < 0 {
         let sign = put(&mut value, 0, b"-");
         let at = put(&mut value, sign, &digits[..k]);
-        print_value(b"number", &value[..at]);
+        print_value(b"number", &value[..at])
     } else {
-        print_value(b"number", &digits[..k]);
+        print_value(b"number", &digits[..k])
     }
 }
