@@ -7,7 +7,7 @@ use native.Mathlib.Omega.{arith}
 use lib.ListN.{length}
 use borrow.Author.Tests.{eq-eqb, ne-eqb, le-leb, lt-leb}
 use Rattle.record.specs.Records.{field, barred}
-use Rattle.record.specs.Checksum.{addRecord}
+use Rattle.checksum.specs.Checksum.{addRecord}
 use Rattle.number.specs.Numbers.{spelled}
 use Rattle.field.specs.Keys.{keyOrder}
 use Rattle.layout.specs.Layout.{Layout, row, mayFollow, isFooter}

@@ -7,7 +7,7 @@ use lib.Dec.{ltb, leb}
 use lib.ListN.{length, getD, take, drop}
 use Rattle.text.specs.Rules.{must}
 use Rattle.record.specs.Records.{field, barred, IsPart}
-use Rattle.record.specs.Checksum.{addRecord}
+use Rattle.checksum.specs.Checksum.{addRecord}
 use Rattle.layout.specs.Layout.{Rule, Layout, row}
 use Rattle.fault.specs.Record.{kindOf, keyIn, shapeFault, keyFault, footerFault, kindFault}
 use Rattle.fault.specs.Fields.{also}

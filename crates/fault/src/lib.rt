@@ -344,7 +344,7 @@ fn close_record(
     let next = State {
         count: st.count + 1,
         last: k,
-        sum: record::add_line(st.sum, sep, r),
+        sum: checksum::add_line(st.sum, sep, r),
     };
     Outcome::Pass {
         next: next,

@@ -10,8 +10,8 @@ use lib.ListN.{length, getD, drop, length-append}
 use borrow.Author.Tests.{leb-true, eqb-true, le-leb, eq-eqb}
 use Rattle.text.specs.Rules.{must}
 use Rattle.record.specs.Records.{records, fields, field, barred}
-use Rattle.record.specs.Checksum.{checksum}
-use Rattle.record.proofs.Pieces.{barred-bar}
+use Rattle.checksum.specs.Checksum.{checksum}
+use Rattle.record.proofs.Bars.{barred-bar}
 use Rattle.number.specs.Numbers.{spelled}
 use Rattle.number.proofs.Digits.{and-left, and-right}
 use Rattle.layout.specs.Layout.{Rule, Layout, row, mayFollow, isFooter}

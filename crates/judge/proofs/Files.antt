@@ -10,8 +10,8 @@ use lib.ListN.{length, getD, take, drop, length-append, replicate}
 use lib.Seq.{drop-drop, take-take, take-nil, append-snoc}
 use Rattle.text.specs.Rules.{must}
 use Rattle.record.specs.Records.{records, onto, barred, IsPart}
-use Rattle.record.specs.Checksum.{addRecord, checksum}
-use Rattle.record.proofs.Sums.{checksum-snoc}
+use Rattle.checksum.specs.Checksum.{addRecord, checksum}
+use Rattle.checksum.proofs.Sums.{checksum-snoc}
 use Rattle.layout.specs.Layout.{Layout, row}
 use Rattle.fault.specs.Record.{kindOf, keyIn, kindFault}
 use Rattle.judge.specs.Record.{lastKind, keyWith, keyBefore, sumOf, fault}

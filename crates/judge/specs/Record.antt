@@ -7,7 +7,7 @@ use lib.Dec.{eqb, leb}
 use lib.ListN.{length}
 use Rattle.text.specs.Rules.{must}
 use Rattle.record.specs.Records.{barred}
-use Rattle.record.specs.Checksum.{checksum}
+use Rattle.checksum.specs.Checksum.{checksum}
 use Rattle.layout.specs.Layout.{Layout, row}
 use Rattle.fault.specs.Record.{kindOf, keyIn, kindFault}
 use Rattle.fault.specs.declared.Check.{Check}

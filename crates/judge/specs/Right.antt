@@ -8,7 +8,7 @@ use lib.ListN.{length, getD}
 use Rattle.text.specs.Order.{sameBytes}
 use Rattle.text.specs.declared.Order.the-variants.{Below}
 use Rattle.record.specs.Records.{records, fields, field}
-use Rattle.record.specs.Checksum.{checksum as sumOfRecords}
+use Rattle.checksum.specs.Checksum.{checksum as sumOfRecords}
 use Rattle.number.specs.Numbers.{spelled}
 use Rattle.field.specs.Judge.{fieldAnswer}
 use Rattle.field.specs.Keys.{keyOrder}

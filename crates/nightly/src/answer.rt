@@ -46,7 +46,7 @@ fn field_line(form: FieldType, mark: Mark, fixed: &[u8], bytes: &[u8]) {
 
 // The checksum of bytes.
 fn sum_line(bytes: &[u8]) {
-    print_numbers(b"ok", 0, record::checksum(bytes) as usize, 0);
+    print_numbers(b"ok", 0, checksum::of_bytes(bytes) as usize, 0);
 }
 
 // The step of the flow table through kinds.

@@ -1,13 +1,13 @@
 -- Laws of bytes with a separator turned to bars.
-use Prim.Native.Nat.{ℕ, zero, suc, _+_}
+use Prim.Native.Nat.{ℕ, zero, suc, _+_, _≤_, _<_}
 use mathlib.Core.Path.{_≡_, refl, sym, ap, ap₂, _∙_}
-use mathlib.Core.List.{List, [], _∷_, _++_, map, foldl, foldl-map}
+use mathlib.Core.List.{List, [], _∷_, _++_, map}
 use mathlib.Core.Bool.{Bool, true, false, cond}
+use native.Mathlib.Omega.{arith}
 use lib.Dec.{eqb}
-use lib.ListN.{length, take, drop, length-map}
-use borrow.Author.Tests.{eqb-true, ne-eqb}
+use lib.ListN.{length, take, drop, getD, length-map, List·getD-eq-default}
+use borrow.Author.Tests.{eqb-true, eq-eqb, ne-eqb}
 use Rattle.record.specs.Records.{onto, records, fields, bar, barred, joined, holds}
-use Rattle.record.specs.Checksum.{addRecord, checksum}
 use Rattle.record.proofs.Cutting.{neither}
 
 pub barred-append : (sep : ℕ) (a b : List ℕ) → barred sep (a ++ b) ≡ barred sep a ++ barred sep b
@@ -94,7 +94,36 @@ barred-joined sep [] h = refl
 barred-joined sep (r ∷ rs) h =
     barred-append sep r (0x0A ∷ joined rs) ∙ ap₂ (λ (b : ℕ) (l : List ℕ). barred sep r ++ b ∷ l) (feed-bar sep h) (barred-joined sep rs h)
 
--- the checksum of turned records, one line at a time
-pub checksum-barred : (sep : ℕ) (rs : List (List ℕ)) → checksum (map (barred sep) rs) ≡ foldl (λ (t : ℕ) (r : List ℕ). addRecord t (barred sep r)) 0 rs
-unfolding checksum
-checksum-barred sep rs = foldl-map (barred sep) addRecord rs 0
+-- turned bytes are as many, and each is the turned byte
+pub barred-length : (sep : ℕ) (s : List ℕ) → length (barred sep s) ≡ length s
+unfolding barred
+barred-length sep s = length-map s (bar sep)
+
+pub barred-byte : (sep : ℕ) (s : List ℕ) (i : ℕ) → i < length s → getD (barred sep s) i 0 ≡ bar sep (getD s i 0)
+unfolding barred
+barred-byte sep [] i h = absurd (omega arith)
+barred-byte sep (b ∷ s) zero h = refl
+barred-byte sep (b ∷ s) (suc i) h = barred-byte sep s i (omega arith)
+
+pub barred-past : (sep : ℕ) (s : List ℕ) (i : ℕ) → length s ≤ i → getD (barred sep s) i 0 ≡ 0
+barred-past sep s i h = List·getD-eq-default (barred sep s) 0 (omega (arith, barred-length sep s))
+
+-- the bar itself changes nothing
+bar-go : (b : ℕ) (t : Bool) → eqb b 0x7C ≡ t → cond t 0x7C b ≡ b
+bar-go b true e = sym (eqb-true b 0x7C e)
+bar-go b false e = refl
+
+pub barred-bar : (s : List ℕ) → barred 0x7C s ≡ s
+unfolding barred bar
+barred-bar [] = refl
+barred-bar (b ∷ s) = rw (bar-go b (eqb b 0x7C) refl, barred-bar s)
+
+-- a byte that is the separator is turned to a bar, and any other stays
+module _ (sep : ℕ) (s : List ℕ) (i : ℕ) (h : i < length s) where
+  pub barred-here : getD s i 0 ≡ sep → getD (barred sep s) i 0 ≡ 0x7C
+  unfolding bar
+  barred-here e = barred-byte sep s i h ∙ simp (eq-eqb _ _ e)
+
+  pub barred-other : (getD s i 0 ≡ sep → ⊥) → getD (barred sep s) i 0 ≡ getD s i 0
+  unfolding bar
+  barred-other e = barred-byte sep s i h ∙ simp (ne-eqb _ _ e)

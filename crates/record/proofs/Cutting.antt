@@ -8,8 +8,7 @@ use lib.Dec.{eqb}
 use lib.ListN.{length, take, drop, getD, length-append, length-drop, drop-of-length-le}
 use lib.Seq.{drop-drop, split-at}
 use borrow.Author.Tests.{eqb-true, ne-eqb}
-use Rattle.record.specs.Records.{onto, records, fields, run, joined, holds, someHolds, IsPart}
-use Rattle.record.specs.Checksum.{checksum, checksumOf}
+use Rattle.record.specs.Records.{onto, records, fields, run, joined, holds, someHolds, Bytes, IsPart}
 use Rattle.record.proofs.Runs.{run-le, records-first}
 
 pub neither : (x y : Bool) → (x || y) ≡ false → (x ≡ false) × (y ≡ false)
@@ -56,10 +55,6 @@ records-joined rs h = ap records (sym (append-nil (joined rs))) ∙ records-join
 pub records-joined-last : (rs : List (List ℕ)) (last : List ℕ) → someHolds 0x0A rs ≡ false → holds 0x0A last ≡ false → 0 < length last
     → records (joined rs ++ last) ≡ rs ++ last ∷ []
 records-joined-last rs last h k n = records-joined-on rs last h ∙ ap (λ (l : List (List ℕ)). rs ++ l) (records-open last k n)
-
-pub checksumOf-joined : (rs : List (List ℕ)) → someHolds 0x0A rs ≡ false → checksumOf (joined rs) ≡ checksum rs
-unfolding checksumOf
-checksumOf-joined rs h = ap checksum (records-joined rs h)
 
 pub joined-append : (a b : List (List ℕ)) → joined (a ++ b) ≡ joined a ++ joined b
 unfolding joined
@@ -128,6 +123,23 @@ unfolding someHolds holds
 some-at b [] h k = refl
 some-at b (p ∷ ps) h zero = neither (holds b p) (someHolds b ps) h .0
 some-at b (p ∷ ps) h (suc k) = some-at b ps (neither (holds b p) (someHolds b ps) h .1) k
+
+bytes-go : (b : ℕ) (ps : List (List ℕ)) (t : Bool) → b < 256 → ((k : ℕ) → Bytes (getD ps k [])) → (k : ℕ) → Bytes (getD (cond t ([] ∷ ps) (onto b ps)) k [])
+unfolding onto
+bytes-go b ps true h ih zero i = omega arith
+bytes-go b ps true h ih (suc k) i = ih k i
+bytes-go b [] false h ih zero zero = h
+bytes-go b [] false h ih zero (suc i) = omega arith
+bytes-go b [] false h ih (suc k) i = omega arith
+bytes-go b (p ∷ ps) false h ih zero zero = h
+bytes-go b (p ∷ ps) false h ih zero (suc i) = ih 0 i
+bytes-go b (p ∷ ps) false h ih (suc k) i = ih (suc k) i
+
+-- the records of bytes are bytes
+pub records-bytes : (s : List ℕ) → Bytes s → (k : ℕ) → Bytes (getD (records s) k [])
+unfolding records
+records-bytes [] h k i = omega arith
+records-bytes (b ∷ s) h k i = bytes-go b (records s) (eqb b 0x0A) (h 0) (records-bytes s (λ j. h (suc j))) k i
 
 le-go : (b n : ℕ) (ps : List (List ℕ)) (t : Bool) → length ps ≤ n → length (cond t ([] ∷ ps) (onto b ps)) ≤ suc n
 unfolding onto

@@ -3,7 +3,6 @@ use Prim.Native.Nat.{ℕ}
 use mathlib.Core.Path.{_≡_, refl}
 use mathlib.Core.List.{List, [], _∷_}
 use Rattle.record.specs.Records.{onto, records, fields}
-use Rattle.record.specs.Checksum.{words, addRecord, checksum, checksumOf}
 
 -- ZHD|P0138001|G|SVAA|Z|POOL|20240105120000
 unfoldable pub zhd : List ℕ
@@ -29,14 +28,10 @@ bench =
     85 ∷ 66 ∷ 124 ∷ 66 ∷ 124 ∷ 124 ∷ 124 ∷ 50 ∷ 48 ∷ 50 ∷ 51 ∷ 49 ∷ 50 ∷ 51 ∷ 49 ∷ 124 ∷ 77 ∷ 10 ∷ 84 ∷ 65 ∷ 50 ∷
     124 ∷ 49 ∷ 46 ∷ 48 ∷ 50 ∷ 53 ∷ 48 ∷ 10 ∷ []
 
--- it is cut into its three records, and their checksum is the one that its footer has
+-- it is cut into its three records
 pub bench-records : records bench ≡ zhd ∷ sub ∷ ta2 ∷ []
 unfolding bench zhd sub ta2 records onto
 bench-records = refl
-
-pub bench-checksum : checksumOf bench ≡ 812996689
-unfolding bench records onto checksumOf checksum addRecord words
-bench-checksum = refl
 
 -- SUB has six fields, of which the third and the fourth are empty
 pub sub-fields : fields 0x7C sub ≡ (83 ∷ 85 ∷ 66 ∷ []) ∷ (66 ∷ []) ∷ [] ∷ [] ∷ (50 ∷ 48 ∷ 50 ∷ 51 ∷ 49 ∷ 50 ∷ 51 ∷ 49 ∷ []) ∷ (77 ∷ []) ∷ []

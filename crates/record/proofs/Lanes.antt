@@ -14,7 +14,6 @@ use lib.Count.{trailingZeros}
 use borrow.Author.Tests.{eqb-true, eq-eqb, ne-eqb}
 use Rattle.record.specs.Records.{run, Bytes}
 use Rattle.record.specs.Eight.{low}
-use Rattle.record.specs.Checksum.{word}
 use Rattle.record.proofs.Xor.{xor-cancel}
 
 -- n times the byte b in one number
@@ -181,7 +180,7 @@ take-four (a ∷ b ∷ []) h = absurd (omega arith)
 take-four (a ∷ b ∷ c ∷ []) h = absurd (omega arith)
 take-four (a ∷ b ∷ c ∷ d ∷ l) h = refl
 
-pub four-at : (s : List ℕ) (i : ℕ) → i + 4 ≤ length s → word (getD s (i + 3) 0) (getD s (i + 2) 0) (getD s (i + 1) 0) (getD s i 0) ≡ low (take 4 (drop i s))
+pub four-at : (s : List ℕ) (i : ℕ) → i + 4 ≤ length s → getD s i 0 + getD s (i + 1) 0 * 0x100 + getD s (i + 2) 0 * 0x10000 + getD s (i + 3) 0 * 0x1000000 ≡ low (take 4 (drop i s))
 four-at s i h =
     let e : take 4 (drop i s) ≡ getD s i 0 ∷ getD s (i + 1) 0 ∷ getD s (i + 2) 0 ∷ getD s (i + 3) 0 ∷ [] =
     take-four (drop i s) (omega (arith, length-drop i s)) ∙ simp (getD-drop, add-zero) in

@@ -1,11 +1,8 @@
 pub mod Runs
 pub mod Cursors
-pub mod Pieces
 pub mod Xor
-pub mod Sums
 pub mod Cutting
 pub mod Bars
-pub mod Changes
 pub mod Fields
 pub mod Search
 pub mod Examples

@@ -254,7 +254,7 @@ fn sum_file(file: &[u8]) {
     if 1048576 < file.len() {
         return files::complain(b"FILE has more than 1,048,576 bytes");
     }
-    print_numbers(b"ok", 0, record::checksum(file) as usize, 0);
+    print_numbers(b"ok", 0, checksum::of_bytes(file) as usize, 0);
 }
 
 // Prints where a list of kinds leads.

@@ -170,7 +170,7 @@ fn say_right(sep: u8, file: &[u8], r: Refusal) {
         return say::number(r.record);
     }
     let before = text::part(file, 0, start_of(file, r.record));
-    say::number(record::checksum(before) as usize);
+    say::number(checksum::of_bytes(before) as usize);
 }
 
 // A file or sheet over its limit is read no further than a byte over the file's.

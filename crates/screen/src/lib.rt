@@ -10,7 +10,7 @@ ghost use mathlib.Core.Path.{_≡_};
 ghost use mathlib.Core.List.{List};
 ghost use Prim.Native.Nat.{ℕ};
 ghost use lib.ListN.{length};
-ghost use Rattle.record.specs.Checksum.{checksumOf};
+ghost use Rattle.checksum.specs.Checksum.{checksumOf};
 ghost use Rattle.field.specs.Judge.{marked, paper as fieldPaper};
 ghost use Rattle.judge.specs.File.{judged, paper as judgePaper};
 ghost use Rattle.sheet.specs.Write.{paper as transferPaper};
@@ -190,7 +190,7 @@ pub extern "C" fn screen_field(
 pub extern "C" fn screen_checksum(bytes: &[u8]) -> u32
     ensures { λ r. ⌜ r ≡ checksumOf (now (bytes .entry)) ⌝ }
 {
-    record::checksum(bytes)
+    checksum::of_bytes(bytes)
 }
 
 // What the step answers.

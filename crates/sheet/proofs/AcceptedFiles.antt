@@ -9,11 +9,11 @@ use lib.ListN.{length, getD, length-append}
 use borrow.Author.Tests.{eqb-true, eqb-false, leb-true, le-leb}
 use Rattle.text.specs.Rules.{must}
 use Rattle.record.specs.Records.{onto, records, fields, field, barred, joined, holds, someHolds}
-use Rattle.record.specs.Checksum.{checksum}
+use Rattle.checksum.specs.Checksum.{checksum}
 use Rattle.record.proofs.Cutting.{neither, records-joined, records-free, joined-ended, joined-not-ended}
 use Rattle.record.proofs.Runs.{fields-some}
 use Rattle.record.proofs.Fields.{field-number}
-use Rattle.record.proofs.Pieces.{barred-bar}
+use Rattle.record.proofs.Bars.{barred-bar}
 use Rattle.number.specs.Numbers.{spelled, decimal}
 use Rattle.number.proofs.Digits.{and-right}
 use Rattle.number.proofs.Spelling.{spelled-is}

@@ -10,7 +10,7 @@ use lib.ListN.{length}
 use borrow.Author.Tests.{ltb-true}
 use Rattle.text.specs.Characters.{all, bytes, isDigit, isText}
 use Rattle.record.specs.Records.{joined, onto, records, fields, field, bar as barOf, barred, holds, Bytes}
-use Rattle.record.specs.Checksum.{words, addRecord, checksum, checksumOf}
+use Rattle.checksum.specs.Checksum.{words, addRecord, checksum, checksumOf}
 use Rattle.number.specs.Numbers.{minus, unsigned, plain, intForm, intValue, decForm, decValue, spelled, decimalIn, decimal}
 use Rattle.number.specs.Calendar.{leap, daysIn, isDay, isDate, isTime}
 use Rattle.field.specs.Types.{textForm, form, range, valueOf}

@@ -8,7 +8,7 @@ use lib.ListN.{length, take, drop}
 use lib.Seq.{length-take-le, take-length}
 use borrow.Author.Tests.{le-leb, lt-leb}
 use Rattle.record.specs.Records.{records, joined}
-use Rattle.record.specs.Checksum.{checksumOf}
+use Rattle.checksum.specs.Checksum.{checksumOf}
 use Rattle.judge.specs.File.{bar, verdict, judged}
 use Rattle.judge.specs.File as judging
 use Rattle.judge.specs.declared.Verdict.{Verdict}

@@ -6,10 +6,10 @@ use mathlib.Core.List.{List, [], _∷_, _++_, map, foldl, append-nil}
 use lib.ListN.{length, getD, length-append, length-map}
 use lib.Seq.{append-snoc}
 use Rattle.record.specs.Records.{fields, field, barred, holds, someHolds}
-use Rattle.record.specs.Checksum.{checksum}
+use Rattle.checksum.specs.Checksum.{checksum}
 use Rattle.record.proofs.Cutting.{neither}
 use Rattle.record.proofs.Bars.{fields-barred}
-use Rattle.record.proofs.Pieces.{barred-length, barred-bar}
+use Rattle.record.proofs.Bars.{barred-length, barred-bar}
 use Rattle.layout.specs.Layout.{Layout, row, kindNamed}
 use Rattle.fault.specs.Record.{kindOf, shapeFault, footerFault, kindFault}
 use Rattle.judge.specs.Record.{lastKind, keyWith, keyBefore, sumOf, fault}

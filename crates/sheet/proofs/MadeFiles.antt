@@ -9,7 +9,7 @@ use lib.Seq.{getD-at}
 use borrow.Author.Tests.{eqb-true, ne-eqb, le-leb}
 use Rattle.text.specs.Rules.{must}
 use Rattle.record.specs.Records.{records, barred, joined, holds, someHolds}
-use Rattle.record.specs.Checksum.{checksumOf}
+use Rattle.checksum.specs.Checksum.{checksumOf}
 use Rattle.record.proofs.Bars.{records-barred, barred-joined}
 use Rattle.record.proofs.Cutting.{records-joined, records-free, records-le, joined-append, joined-ended}
 use Rattle.layout.specs.Layout.{Layout, mayFollow}

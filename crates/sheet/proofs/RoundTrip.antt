@@ -11,9 +11,10 @@ use lib.Seq.{take-at, getD-append-add}
 use borrow.Author.Tests.{leb-true, le-leb, ne-eqb, not-true}
 use Rattle.text.specs.Rules.{must}
 use Rattle.record.specs.Records.{records, barred, joined, holds, someHolds}
-use Rattle.record.specs.Checksum.{checksum, checksumOf}
+use Rattle.checksum.specs.Checksum.{checksum, checksumOf}
 use Rattle.record.proofs.Bars.{records-barred-length}
-use Rattle.record.proofs.Cutting.{records-joined, records-free, records-le, joined-append, checksumOf-joined}
+use Rattle.record.proofs.Cutting.{records-joined, records-free, records-le, joined-append}
+use Rattle.checksum.proofs.Sums.{checksumOf-joined}
 use Rattle.layout.specs.Layout.{Layout}
 use Rattle.flow.specs.Publication.{layoutFor}
 use Rattle.flow.specs.Flows.{held, flowNumber, flowNamed}

@@ -7,8 +7,8 @@ use native.Mathlib.Omega.{arith}
 use lib.ListN.{length}
 use borrow.Author.Tests.{ne-eqb, le-leb, lt-leb}
 use Rattle.record.specs.Records.{records, holds, Bytes}
-use Rattle.record.specs.Checksum.{checksumOf}
-use Rattle.record.proofs.Sums.{checksumOf-lt}
+use Rattle.checksum.specs.Checksum.{checksumOf}
+use Rattle.checksum.proofs.Sums.{checksumOf-lt}
 use Rattle.record.proofs.Cutting.{records-le}
 use Rattle.layout.specs.Layout.{Layout, mayFollow}
 use Rattle.flow.specs.Publication.{layoutFor}

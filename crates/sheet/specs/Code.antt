@@ -5,7 +5,7 @@ use mathlib.Core.List.{List, [], _++_}
 use lib.ListN.{length, take, drop}
 use Rattle.text.specs.Rules.{must}
 use Rattle.record.specs.Records.{records}
-use Rattle.record.specs.Checksum.{checksumOf}
+use Rattle.checksum.specs.Checksum.{checksumOf}
 use Rattle.layout.specs.Layout.{Layout, mayFollow}
 use Rattle.judge.specs.Record.{lastKind}
 use Rattle.judge.specs.File.{bar, checkedFrom, finish}

@@ -5,7 +5,7 @@ use mathlib.Core.List.{List, [], _∷_, _++_, map}
 use lib.Dec.{eqb}
 use lib.ListN.{length}
 use Rattle.record.specs.Records.{records, joined, holds}
-use Rattle.record.specs.Checksum.{checksumOf}
+use Rattle.checksum.specs.Checksum.{checksumOf}
 use Rattle.number.specs.Numbers.{decimal}
 use Rattle.flow.specs.Letters.{ZPT}
 use Rattle.judge.specs.File.{bar, endsInFeed}

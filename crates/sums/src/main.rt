@@ -8,7 +8,7 @@ fn wide(sum: u32) -> u64 {
 
 // Writes the checksum of `s` on a line.
 fn line(s: &[u8]) {
-    io::print_decimal(STDOUT_FILENO, wide(record::checksum(s)));
+    io::print_decimal(STDOUT_FILENO, wide(checksum::of_bytes(s)));
     io::write_all(STDOUT_FILENO, b"\n");
 }
 

@@ -5,7 +5,7 @@ use mathlib.Core.List.{List, [], _∷_, map}
 use lib.IntN.{pos}
 use Rattle.text.specs.Characters.{bytes, isDigit, isText}
 use Rattle.record.specs.Records.{joined, onto, records, fields, field, extent, bar as barOf, barred}
-use Rattle.record.specs.Checksum.{words, addRecord, checksum}
+use Rattle.checksum.specs.Checksum.{words, addRecord, checksum}
 use Rattle.number.specs.Numbers.{minus, unsigned, plain, intForm, intValue, decForm, decValue, spelled}
 use Rattle.number.specs.Calendar.{leap, daysIn, isDay, isDate, isTime}
 use Rattle.field.specs.Types.{textForm, form, range, valueOf}

@@ -7,45 +7,45 @@ use Rattle.record.proofs.Lanes.{four-at}
 use Rattle.record.proofs.four.Statement.{statement}
 use Rattle.record.proofs.four.Tie as tie
 
-add-join : tie.Need-add-join
-add-join c = search needs
+shared-slice-read-pack : tie.Need-shared-slice-read-pack
+shared-slice-read-pack c = search needs
 
-shared-slice-read-join : tie.Need-shared-slice-read-join
-shared-slice-read-join c = search needs
+add-pack : tie.Need-add-pack
+add-pack c = search needs
 
-add-join-2 : tie.Need-add-join-2
-add-join-2 c = search needs
+shared-slice-read-pack-2 : tie.Need-shared-slice-read-pack-2
+shared-slice-read-pack-2 c = search needs
 
-shared-slice-read-join-2 : tie.Need-shared-slice-read-join-2
-shared-slice-read-join-2 c = search needs
+add-pack-2 : tie.Need-add-pack-2
+add-pack-2 c = search needs
 
-add-join-3 : tie.Need-add-join-3
-add-join-3 c = search needs
+shared-slice-read-pack-3 : tie.Need-shared-slice-read-pack-3
+shared-slice-read-pack-3 c = search needs
 
-shared-slice-read-join-3 : tie.Need-shared-slice-read-join-3
-shared-slice-read-join-3 c = search needs
+add-pack-3 : tie.Need-add-pack-3
+add-pack-3 c = search needs
 
-shared-slice-read-join-4 : tie.Need-shared-slice-read-join-4
-shared-slice-read-join-4 c = search needs
+shared-slice-read-pack-4 : tie.Need-shared-slice-read-pack-4
+shared-slice-read-pack-4 c = search needs
 
-join-requires : tie.Need-join-requires
-join-requires c κs = search needs
+pack-requires : tie.Need-pack-requires
+pack-requires c κs = search needs
 
 returns : tie.Need-returns
 returns c =
     let a = c .before .before .before .before .before .before .args in
-    c .join .ensures ∙ four-at (now (a .s)) (a .i) (omega arith)
+    c .pack .ensures ∙ four-at (now (a .s)) (a .i) (omega arith)
 
 pub four-spec : {M : Type 1} → statement M
 four-spec =
     tie.close
     (tie.spec
-    add-join
-    shared-slice-read-join
-    add-join-2
-    shared-slice-read-join-2
-    add-join-3
-    shared-slice-read-join-3
-    shared-slice-read-join-4
-    join-requires
+    shared-slice-read-pack
+    add-pack
+    shared-slice-read-pack-2
+    add-pack-2
+    shared-slice-read-pack-3
+    add-pack-3
+    shared-slice-read-pack-4
+    pack-requires
     returns)

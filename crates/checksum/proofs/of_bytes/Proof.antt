@@ -6,12 +6,12 @@ use mathlib.Core.List.{foldl}
 use native.Mathlib.Omega.{arith}
 use lib.ListN.{length, drop}
 use denote.Ref.{now}
 use Rattle.record.specs.Records.{records}
 use Rattle.record.specs.Step.{IsRecord}
-use Rattle.record.specs.Checksum.{addRecord, checksumOf, checksum}
-use Rattle.record.proofs.Sums.{sum-next}
-use Rattle.record.proofs.checksum.Statement.{statement}
-use Rattle.record.proofs.checksum.Tie as tie
+use Rattle.checksum.specs.Checksum.{addRecord, checksumOf, checksum}
+use Rattle.checksum.proofs.Sums.{sum-next}
+use Rattle.checksum.proofs.of_bytes.Statement.{statement}
+use Rattle.checksum.proofs.of_bytes.Tie as tie
 
 abbrev Inv-loop : tie.InvT-loop
 Inv-loop s sum₀ c₀ sum c = (c .at ≤ length s) × (foldl addRecord sum (records (drop (c .at) s)) ≡ checksumOf s)
@@ -68,8 +68,8 @@ returns c =
     let l = c .before .before .before .loop in
     sym (ap (foldl addRecord (l .sum)) none) ∙ l .inv .1
 
-pub checksum-spec : {M : Type 1} → statement M
-checksum-spec =
+pub of-bytes-spec : {M : Type 1} → statement M
+of-bytes-spec =
     tie.close
     (tie.spec
     Inv-loop

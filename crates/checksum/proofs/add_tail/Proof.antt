@@ -4,10 +4,11 @@ use mathlib.Core.Path.{sym, _∙_, ap}
 use native.Mathlib.Omega.{arith}
 use lib.Bits.{bitXor}
 use denote.Ref.{now}
 use Rattle.record.specs.Records.{barred}
-use Rattle.record.proofs.Pieces.{add-left, add-none, barred-length}
-use Rattle.record.proofs.add_tail.Statement.{statement}
-use Rattle.record.proofs.add_tail.Tie as tie
+use Rattle.record.proofs.Bars.{barred-length}
+use Rattle.checksum.proofs.Pieces.{add-left, add-none}
+use Rattle.checksum.proofs.add_tail.Statement.{statement}
+use Rattle.checksum.proofs.add_tail.Tie as tie
 
 returns : tie.Need-returns
 returns c =

@@ -7,10 +7,11 @@ use native.Mathlib.Omega.{arith}
 use lib.ListN.{length, drop}
 use lib.Bits.{bitXor}
 use denote.Ref.{now}
-use Rattle.record.specs.Checksum.{addRecord}
-use Rattle.record.proofs.Pieces.{add-four, barred-bar}
-use Rattle.record.proofs.add_record.Statement.{statement}
-use Rattle.record.proofs.add_record.Tie as tie
+use Rattle.checksum.specs.Checksum.{addRecord}
+use Rattle.record.proofs.Bars.{barred-bar}
+use Rattle.checksum.proofs.Pieces.{add-four}
+use Rattle.checksum.proofs.add_record.Statement.{statement}
+use Rattle.checksum.proofs.add_record.Tie as tie
 
 abbrev Inv-loop : tie.InvT-loop
 Inv-loop sum part t₀ i₀ t i = (i ≤ length part) × (addRecord t (drop i part) ≡ addRecord sum part)

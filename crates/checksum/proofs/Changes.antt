@@ -9,10 +9,10 @@ use lib.ListN.{length, take, drop, getD, set}
 use lib.Seq.{set-split, split-at}
 use lib.Bits.{bitXor, xor-comm}
 use borrow.Author.Tests.{ne-eqb}
 use Rattle.record.specs.Records.{onto, records}
-use Rattle.record.specs.Checksum.{word, words, addRecord, checksum, checksumOf}
+use Rattle.checksum.specs.Checksum.{word, words, addRecord, checksum, checksumOf}
 use Rattle.record.proofs.Xor.{xor-cancel, xor-tells}
-use Rattle.record.proofs.Sums.{add-from, sum-from}
+use Rattle.checksum.proofs.Sums.{add-from, sum-from}
 
 -- two lists of words that differ in one word at most, and are the same only where a is b
 record OneWord (a b : ℕ) (x y : List ℕ) : Type 0 where

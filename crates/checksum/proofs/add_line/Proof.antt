@@ -6,11 +6,12 @@ use native.Mathlib.Omega.{arith}
 use lib.ListN.{length, drop}
 use lib.Bits.{bitXor}
 use denote.Ref.{now}
 use Rattle.record.specs.Records.{barred}
-use Rattle.record.specs.Checksum.{addRecord}
-use Rattle.record.proofs.Pieces.{add-four, barred-bar, barred-length}
-use Rattle.record.proofs.add_line.Statement.{statement}
-use Rattle.record.proofs.add_line.Tie as tie
+use Rattle.checksum.specs.Checksum.{addRecord}
+use Rattle.record.proofs.Bars.{barred-bar, barred-length}
+use Rattle.checksum.proofs.Pieces.{add-four}
+use Rattle.checksum.proofs.add_line.Statement.{statement}
+use Rattle.checksum.proofs.add_line.Tie as tie
 
 abbrev Inv-loop : tie.InvT-loop
 Inv-loop sum sep part t₀ i₀ t i = (i ≤ length part) × (addRecord t (drop i (barred sep part)) ≡ addRecord sum (barred sep part))

@@ -2,9 +2,9 @@
 use borrow.Author.Needs.{needs}
 use mathlib.Core.Path.{sym}
 use denote.Ref.{now}
-use Rattle.record.proofs.Pieces.{barred-here, barred-other}
-use Rattle.record.proofs.barred_byte.Statement.{statement}
-use Rattle.record.proofs.barred_byte.Tie as tie
+use Rattle.record.proofs.Bars.{barred-here, barred-other}
+use Rattle.checksum.proofs.barred_byte.Statement.{statement}
+use Rattle.checksum.proofs.barred_byte.Tie as tie
 
 shared-slice-read-if1 : tie.Need-shared-slice-read-if1
 shared-slice-read-if1 c = search needs

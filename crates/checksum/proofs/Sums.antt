@@ -7,9 +7,10 @@ use native.Mathlib.Omega.{arith}
 use lib.Dec.{eqb}
 use lib.ListN.{getD}
 use lib.Bits.{bitXor, xor-zero-r, xor-lt}
-use Rattle.record.specs.Records.{onto, records, Bytes}
-use Rattle.record.specs.Checksum.{word, words, addRecord, checksum, checksumOf}
+use Rattle.record.specs.Records.{records, joined, someHolds, Bytes}
+use Rattle.checksum.specs.Checksum.{word, words, addRecord, checksum, checksumOf}
 use Rattle.record.proofs.Xor.{xor-assoc, xor-from}
+use Rattle.record.proofs.Cutting.{records-bytes, records-joined}
 
 -- one record taken from the front of those that are left
 pub sum-next : (sum : ℕ) {sum′ : ℕ} {p : List ℕ} {rest rs : List (List ℕ)} → sum′ ≡ addRecord sum p → rs ≡ p ∷ rest
@@ -61,23 +62,10 @@ pub checksum-lt : (rs : List (List ℕ)) → ((k : ℕ) → Bytes (getD rs k [])
 unfolding checksum
 checksum-lt rs h = sum-lt rs 0 h (omega arith)
 
-bytes-go : (b : ℕ) (ps : List (List ℕ)) (t : Bool) → b < 256 → ((k : ℕ) → Bytes (getD ps k [])) → (k : ℕ) → Bytes (getD (cond t ([] ∷ ps) (onto b ps)) k [])
-unfolding onto
-bytes-go b ps true h ih zero i = omega arith
-bytes-go b ps true h ih (suc k) i = ih k i
-bytes-go b [] false h ih zero zero = h
-bytes-go b [] false h ih zero (suc i) = omega arith
-bytes-go b [] false h ih (suc k) i = omega arith
-bytes-go b (p ∷ ps) false h ih zero zero = h
-bytes-go b (p ∷ ps) false h ih zero (suc i) = ih 0 i
-bytes-go b (p ∷ ps) false h ih (suc k) i = ih (suc k) i
-
--- the records of bytes are bytes
-pub records-bytes : (s : List ℕ) → Bytes s → (k : ℕ) → Bytes (getD (records s) k [])
-unfolding records
-records-bytes [] h k i = omega arith
-records-bytes (b ∷ s) h k i = bytes-go b (records s) (eqb b 0x0A) (h 0) (records-bytes s (λ j. h (suc j))) k i
-
 pub checksumOf-lt : (s : List ℕ) → Bytes s → checksumOf s < 2 ^ 32
 unfolding checksumOf
 checksumOf-lt s h = checksum-lt (records s) (records-bytes s h)
+
+pub checksumOf-joined : (rs : List (List ℕ)) → someHolds 0x0A rs ≡ false → checksumOf (joined rs) ≡ checksum rs
+unfolding checksumOf
+checksumOf-joined rs h = ap checksum (records-joined rs h)

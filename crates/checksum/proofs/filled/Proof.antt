@@ -2,9 +2,9 @@
 use borrow.Author.Needs.{needs}
 use mathlib.Core.Path.{sym}
 use denote.Ref.{now}
-use Rattle.record.proofs.Pieces.{barred-past}
-use Rattle.record.proofs.filled.Statement.{statement}
-use Rattle.record.proofs.filled.Tie as tie
+use Rattle.record.proofs.Bars.{barred-past}
+use Rattle.checksum.proofs.filled.Statement.{statement}
+use Rattle.checksum.proofs.filled.Tie as tie
 
 barred-byte-requires : tie.Need-barred-byte-requires
 barred-byte-requires c κs = search needs

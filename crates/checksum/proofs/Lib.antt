@@ -1,0 +1,4 @@
+pub mod Pieces
+pub mod Sums
+pub mod Changes
+pub mod Examples
