@@ -1,6 +1,7 @@
 // The checksum of records, as the footer has it.
 use record::Cursor;
 use record::Step;
+use record::wide;
 ghost use mathlib.Core.Path.{_≡_};
 ghost use Prim.Native.Nat.{_+_, _≤_, _<_};
 ghost use lib.ListN.{length, drop, getD};
@@ -11,10 +12,7 @@ ghost use Rattle.checksum.specs.Checksum.{word, pieceAt, addRecord, chec
 fn join(a: u8, b: u8, c: u8, d: u8) -> u32
     ensures { λ r. ⌜ r ≡ word a b c d ⌝ }
 {
-    record::wide(a) * 0x1000000
-        + record::wide(b) * 0x10000
-        + record::wide(c) * 0x100
-        + record::wide(d)
+    wide(a) * 0x1000000 + wide(b) * 0x10000 + wide(c) * 0x100 + wide(d)
 }
 
 // The byte at `i`, with `sep` counted as a bar.
