@@ -105,3 +105,15 @@ fn w11_room_is_asked_for_last() {
     assert_eq!(plain(read(b"P0012001", unended, &mut [])), Err((15, 7, 0)));
     assert_eq!(plain(read(b"P0012001", &file, &mut [])), Err((17, 0, 0)));
 }
+
+#[test]
+fn w12_a_sheet_that_is_read_may_be_longer_than_the_writer_takes() {
+    let header = "ZHD\tP0134001\tZ\tSVAA\tZ\tPOOL\t20240105120000\n";
+    let line = "SB2\tM\tSUPPLIER\t20240105\tM\n";
+    let sheet = [header.as_bytes(), line.repeat(40_320).as_bytes()].concat();
+    assert!(sheet.len() > SHEET_LIMIT);
+    let mut room = vec![0; sheet.len()];
+    assert_eq!(plain(read(b"P0134001", &made_file(&sheet), &mut room)), Ok((40_322, sheet.len())));
+    assert_eq!(room, sheet);
+    assert_eq!(written("P0134001", &sheet, 0), Err((2, 0, 0)));
+}

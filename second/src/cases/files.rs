@@ -245,6 +245,12 @@ fn big_file(dice: &mut Dice) -> Given {
     given
 }
 
+/// A good file at its limit, whose sheet is longer than the writer takes; or one byte over it.
+pub fn long_file(dice: &mut Dice) -> Given {
+    let draft = Draft::of_length(*dice.pick(&[FILE_LIMIT, FILE_LIMIT + 1]), false, dice);
+    given(&draft, draft.file())
+}
+
 /// A small file, good or not, with a long tail behind it.
 fn long_tail(dice: &mut Dice) -> Given {
     let mut given = file(50, dice);

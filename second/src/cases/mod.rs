@@ -96,7 +96,10 @@ impl Generator {
                 written(b"write", &flow, &format!("\t{}", room), &bytes)
             }
             _ => {
-                let (Given { flow, bytes }, _) = file(turn, 45, dice);
+                let (Given { flow, bytes }, _) = match turn {
+                    None if dice.one_in(LONG_READ) => (files::long_file(dice), None),
+                    _ => file(turn, 45, dice),
+                };
                 let room = room(made_sheet(&bytes).len(), dice);
                 written(b"read", &flow, &format!("\t{}", room), &bytes)
             }
@@ -119,6 +122,9 @@ impl Generator {
         }
     }
 }
+
+/// One in so many of the files that are read is at its limit.
+const LONG_READ: usize = 40;
 
 /// A file, with the record and field that the sweep changed if it did.
 fn file(turn: Option<usize>, good: usize, dice: &mut Dice) -> (Given, Option<(usize, usize)>) {
