@@ -2,3 +2,4 @@ pub mod Filled
 pub mod EachByValue
 pub mod OneAnswer
 pub mod Examples
+pub mod Bols

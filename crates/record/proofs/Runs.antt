@@ -122,3 +122,16 @@ module _ (sep : ℕ) (r : List ℕ) (i : ℕ) where
   pub count-end : length r ≤ i → length (fields sep (drop i r)) ≡ 1
   unfolding fields
   count-end h = rw (drop-of-length-le r {i = i} h)
+
+-- how many of some bytes are the byte b
+unfoldable pub howMany : ℕ → List ℕ → ℕ
+howMany b [] = 0
+howMany b (a ∷ s) = cond (eqb a b) 1 0 + howMany b s
+
+-- a record with n separators has n + 1 fields
+pub fields-and-bars : (sep : ℕ) (r : List ℕ) → length (fields sep r) ≡ howMany sep r + 1
+unfolding fields howMany
+fields-and-bars sep [] = refl
+fields-and-bars sep (b ∷ s) =
+    let one = count-go b (cond (eqb b sep) 1 0) (fields sep s) (eqb b sep) (fields-some sep s) refl in
+    omega (arith, one .1, fields-and-bars sep s)

@@ -14,3 +14,4 @@ pub mod TabFree
 pub mod AcceptedFiles
 pub mod RoundTrip
 pub mod Examples
+pub mod Reading
