@@ -8,7 +8,7 @@ use lib.ListN.{length, getD, drop}
 use Rattle.layout.specs.Layout.{among, mayFollow}
 use Rattle.grammar.specs.Sets.{Sets}
 use Rattle.grammar.specs.Table.{agrees}
-use Rattle.grammar.proofs.Tests.{and-left, and-right}
+use Rattle.text.proofs.Tests.{and-left, and-right}
 use Rattle.flow.specs.Publication.{Flow, PublishedKind, names, rowFor, layoutFor}
 use Rattle.flow.specs.Flows.{flows, flowAt, p0012}
 use Rattle.flow.specs.ByTable.{rowNames, kindNames}

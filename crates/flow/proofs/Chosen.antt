@@ -12,7 +12,7 @@ use Rattle.text.specs.Order.{sameBytes}
 use Rattle.text.proofs.Lists.{same→≡}
 use Rattle.layout.specs.Layout.{KindRow, Layout, mayFollow}
 use Rattle.grammar.specs.Walk.{among}
-use Rattle.grammar.proofs.Tests.{or-cases, or-left, or-right}
+use Rattle.text.proofs.Tests.{or-cases, or-left, or-right}
 use Rattle.flow.specs.ByTable.{rowNames, followersFrom}
 use Rattle.flow.specs.Step.{Chosen, none, takes, passes}
 

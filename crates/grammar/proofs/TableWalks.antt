@@ -8,15 +8,17 @@ use mathlib.Core.Logic.{_↔_, Iff·trans}
 use mathlib.Core.List.{List, [], _∷_, _++_}
 use lib.Dec.{T, eqb, eqb→eq, eqb-refl, eqb·suc-zero}
 use lib.ListN.{length, getD}
+use Rattle.text.specs.Places.{each}
 use Rattle.text.specs.Rules.{must}
 use Rattle.grammar.specs.Sets.{Sets, Under}
 use Rattle.grammar.specs.Right.{Completes, StoppedRight, ThroughRight}
 use Rattle.grammar.specs.Walk.{kinds, among, distinct, Once, At, start, last, may, ends, Walked, stopped, through, walk, Goes, RightWalk}
-use Rattle.grammar.specs.Table.{rowOf, atRow, sameNames, each, rowAgrees, agrees, tableWalk, standing}
-use Rattle.grammar.proofs.Tests.{and-left, and-right, cond-true, cond-false, by-test, holds, beq-eq, must-holds, must-fails}
+use Rattle.grammar.specs.Table.{rowOf, atRow, sameNames, rowAgrees, agrees, tableWalk, standing}
+use Rattle.text.proofs.Places.{each-at, place-name, place-most}
+use Rattle.text.proofs.Tests.{and-left, and-right, cond-true, cond-false, by-test, holds, beq-eq, must-holds, must-fails}
 use Rattle.grammar.proofs.Walks.{right-walk, goes-through-iff, stops-first, may-iff, one-place, stopped-or-begun, never-both, through-one}
 use Rattle.grammar.proofs.Once.{has-among, once-by-test, may-has}
-use Rattle.grammar.proofs.Rows.{names-same, each-at, row-name, row-none, own-row}
+use Rattle.grammar.proofs.Rows.{names-same, row-none, own-row}
 
 -- two rules that let one walk go through let every walk go on
 both-hold : {S : Type 0} (a b : Bool) (i : ℕ) (s : S) (w v : Walked S) → must a (stopped i) (must b (stopped i) w) ≡ through s
@@ -40,15 +42,11 @@ module _ (names : List (List ℕ)) (bit : ℕ → ℕ → Bool) where
       ∙ table-on (rowOf names k) s (suc i) ks ls (sym (step-on r s i k ks ks e) ∙ e)
       ∙ ap (λ (n : ℕ). tableWalk names bit s n ls) (suc-add i (length ks) ∙ sym (add-suc i (length ks)))
 
-  -- the row of a kind is one of the table's, and so is the row to which a walk goes through
-  row-within : (k : List ℕ) (q : ℕ) → rowOf names k ≡ q → q ≤ length names
-  row-within k zero e = omega arith
-  row-within k (suc j) e = row-name names k j e .0
-
+  -- the row to which a walk goes through is one of the table's
   within-from : (ks : List (List ℕ)) (r s i : ℕ) → r ≤ length names → tableWalk names bit r i ks ≡ through s → s ≤ length names
   within-from [] r s i h e = subst (λ (q : ℕ). q ≤ length names) (through-one e) h
   within-from (k ∷ ks) r s i h e =
-      within-from ks (rowOf names k) s (suc i) (row-within k (rowOf names k) refl) (sym (step-on r s i k ks ks e) ∙ e)
+      within-from ks (rowOf names k) s (suc i) (place-most k names) (sym (step-on r s i k ks ks e) ∙ e)
 
   pub table-within : (ks : List (List ℕ)) (r : ℕ) → tableWalk names bit 0 0 ks ≡ through r → r ≤ length names
   table-within ks r e = within-from ks 0 r 0 (omega arith) e
@@ -103,12 +101,12 @@ module _ (names : List (List ℕ)) (bit : ℕ → ℕ → Bool) (g : Sets) (ok :
   -- each row agrees
   row-agrees : (r : ℕ) → r ≤ length names → T (rowAgrees names bit g r (atRow names r))
   row-agrees zero h = and-right (sameNames names (kinds g) && distinct names) (rowAgrees names bit g 0 start) three-agree
-  row-agrees (suc j) h = each-at (λ r k. rowAgrees names bit g r (last k)) names rows-agree j h
+  row-agrees (suc j) h = each-at (λ r k. rowAgrees names bit g r (last k)) [] 1 names rows-agree j (suc j) h (omega arith)
 
   bit-may : (r q : ℕ) → r ≤ length names → q < length names → bit r (suc q) ≡ may g (atRow names r) (getD names q [])
   bit-may r q h l =
-      beq-eq _ _ (each-at (λ q k. Bool·beq (bit r q) (may g (atRow names r) k)) names
-      (and-left (each (λ q k. Bool·beq (bit r q) (may g (atRow names r) k)) 1 names) _ (row-agrees r h)) q l)
+      beq-eq _ _ (each-at (λ q k. Bool·beq (bit r q) (may g (atRow names r) k)) [] 1 names
+      (and-left (each (λ q k. Bool·beq (bit r q) (may g (atRow names r) k)) 1 names) _ (row-agrees r h)) q (suc q) l (omega arith))
 
   last-ends : (r : ℕ) → r ≤ length names → eqb r (length names) ≡ ends g (atRow names r)
   last-ends r h =
@@ -129,8 +127,8 @@ module _ (names : List (List ℕ)) (bit : ℕ → ℕ → Bool) (g : Sets) (ok :
       ≡ standing names (must (not (eqb q 0)) (stopped i) (must (bit r q) (stopped i) (tableWalk names bit q (suc i) ks)))
   same-step k ks later r i h zero e = cond-false (may g (atRow names r) k) _ _ (table-foreign k e (atRow names r))
   same-step k ks later r i h (suc j) e =
-      let l : j < length names = row-name names k j e .0 in
-      let n : getD names j [] ≡ k = row-name names k j e .1 in
+      let l : j < length names = place-name k names j e .0 in
+      let n : getD names j [] ≡ k = place-name k names j e .1 in
       let b : bit r (suc j) ≡ may g (atRow names r) k = bit-may r j h l ∙ ap (λ (x : List ℕ). may g (atRow names r) x) n in
       rw (eqb·suc-zero j, b)
       (by-test (may g (atRow names r) k)
@@ -206,8 +204,8 @@ module _ (names : List (List ℕ)) (bit : ℕ → ℕ → Bool) (g : Sets) (ok :
   pub table-next-iff : (ks : List (List ℕ)) (r : ℕ) → tableWalk names bit 0 0 ks ≡ through r → (k : List ℕ) (q : ℕ) → rowOf names k ≡ suc q
       → T (bit r (suc q)) ↔ Completes g (ks ++ (k ∷ []))
   table-next-iff ks r e k q h =
-      subst (λ (x : List ℕ). T (bit r (suc q)) ↔ Completes g (ks ++ (x ∷ []))) (row-name names k q h .1)
-      (table-may-iff ks r e q (row-name names k q h .0))
+      subst (λ (x : List ℕ). T (bit r (suc q)) ↔ Completes g (ks ++ (x ∷ []))) (place-name k names q h .1)
+      (table-may-iff ks r e q (place-name k names q h .0))
 
   pub table-foreign-stops : (ks : List (List ℕ)) (r : ℕ) → tableWalk names bit 0 0 ks ≡ through r → (k : List ℕ) → rowOf names k ≡ 0
       → Completes g (ks ++ (k ∷ [])) → ⊥
