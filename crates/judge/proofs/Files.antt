@@ -11,6 +11,7 @@ use lib.Seq.{drop-drop, take-take, take-nil, append-snoc}
 use Rattle.text.specs.Rules.{must}
 use Rattle.record.specs.Records.{records, onto, barred, IsPart}
 use Rattle.record.specs.Checksum.{addRecord, checksum}
+use Rattle.record.proofs.Cutting.{records-le}
 use Rattle.record.proofs.Sums.{checksum-snoc}
 use Rattle.layout.specs.Layout.{Layout, row}
 use Rattle.fault.specs.Record.{kindOf, keyIn, kindFault}
@@ -176,18 +177,6 @@ inner f start end from to p h =
     (sym (take-take (to - from) (end - start - from) (drop from (drop start f)) w)
     ∙ ap (take (to - from)) (sym (drop-take from (end - start) (drop start f))) ∙ h .is)
 
-few-go : (b : ℕ) (ps : List (List ℕ)) (n : ℕ) (t : Bool) → length ps ≤ n → length (cond t ([] ∷ ps) (onto b ps)) ≤ suc n
-unfolding onto
-few-go b ps n true h = suc-le-suc h
-few-go b [] n false h = suc-le-suc zero-le
-few-go b (p ∷ ps) n false h = omega arith
-
--- there are no more records than bytes
-pub few-records : (s : List ℕ) → length (records s) ≤ length s
-unfolding records
-few-records [] = zero-le
-few-records (b ∷ s) = few-go b (records s) (length s) (eqb b 0x0A) (few-records s)
-
 -- the whole file, by what its records come to
 module _ (l : Layout) (f : List ℕ) where
   pub file-long : 1048576 < length f → Refused 2 0 0 ≡ judgedBy l f
@@ -208,4 +197,4 @@ module _ (l : Layout) (f : List ℕ) where
   -- its records are counted within 64 bits
   pub count-fits : (st : State) → length f ≤ 1048576 → st ≡ summary bar l (records f) → st .count + 1 < 2 ^ 64
   unfolding summary
-  count-fits st h q = omega (arith, ap (λ (s : State). s .count) q, few-records f)
+  count-fits st h q = omega (arith, ap (λ (s : State). s .count) q, records-le f)

@@ -27,7 +27,7 @@ use Rattle.judge.specs.Right.{kindIn, NoneOfKind, publishedAs, published
 use Rattle.fault.specs.declared.Check.the-variants.{Fine}
 use Rattle.judge.proofs.RightEach.{Each, each-first, each-rest}
 use Rattle.judge.proofs.RightFields.{must-fine, fine-must, filled-right}
-use Rattle.judge.proofs.RightKinds.{place-is, kind-row, known-row, one-name, one-kind}
+use Rattle.judge.proofs.RightKinds.{kind-row, known-row, one-name, one-kind}
 
 -- where the last key of a kind comes from: from before these records, from nowhere since the set began anew, or from one of them
 data Latest (kind head : List ℕ) (key : List ℕ → List ℕ) (rs : List (List ℕ)) (old now : List ℕ) : Type 0 where
@@ -60,7 +60,7 @@ module _ (fl : Flow) (r : List ℕ) (known : kindOf bar (layoutFor fl) r ≡ 0 �
   type-is = ap (λ (x : KindRow). getD (x .rules) (x .key - 2) null .type) row-is
 
   head-is : row l k .head ≡ rowOf (names (fl .kinds)) (p .within)
-  head-is = ap (λ (x : KindRow). x .head) row-is ∙ place-is (p .within) 1 (names (fl .kinds))
+  head-is = ap (λ (x : KindRow). x .head) row-is
 
   -- numbers of kinds and their names tell the same
   not-own : (x : List ℕ) → (kindIn x ≡ kindIn r → ⊥) → kindOf bar l x ≡ k → ⊥

@@ -11,9 +11,7 @@ use Rattle.text.specs.Rules.{must}
 use Rattle.field.specs.Judge as fields
 use Rattle.field.specs.declared.FieldType.{FieldType}
 use Rattle.field.specs.declared.FieldType.the-variants as types
-use Rattle.flow.specs.Step.{StepRight}
-use Rattle.flow.specs.declared.StepAnswer.{StepAnswer}
-use Rattle.flow.specs.declared.StepAnswer.the-variants as steps
+use Rattle.flow.specs.Step as steps
 use Rattle.judge.specs.File as files
 use Rattle.value.specs.Value as values
 use Rattle.sheet.specs.Sheets.{made, sheetOf}
@@ -108,13 +106,13 @@ fieldAsked type p q mark bytes s =
 
 -- the step: cell 1 is the place where the list stopped, 0 where it went through; then cell 2 is how many kinds may follow, and cell 3
 -- says if the list is complete
-abbrev pub stepCells : StepAnswer → List ℕ
-stepCells (steps.Refused number) = refusalCells number 0 0
-stepCells (steps.Stopped place) = 0 ∷ place ∷ 0 ∷ 0 ∷ []
-stepCells (steps.Through count complete) = 0 ∷ 0 ∷ count ∷ flagOf complete ∷ []
+abbrev pub stepCells : steps.Reply → List ℕ
+stepCells (steps.refused number r f) = refusalCells number r f
+stepCells (steps.stopped place) = 0 ∷ place ∷ 0 ∷ 0 ∷ []
+stepCells (steps.through count complete) = 0 ∷ 0 ∷ count ∷ flagOf complete ∷ []
 
 -- the cells are those of the step's right answer, and the lent names of kinds are right
 pub record Stepped (name kinds cells old new : List ℕ) : Type 0 where
-  pub step : StepAnswer
-  pub right : StepRight name kinds step old new
+  pub step : steps.Reply
+  pub right : steps.ReplyRight name kinds step old new
   pub says : cells ≡ stepCells step

@@ -12,6 +12,7 @@ ghost use Prim.Native.Nat.{ℕ};
 ghost use lib.ListN.{length};
 ghost use Rattle.record.specs.Checksum.{checksumOf};
 ghost use Rattle.field.specs.Judge.{marked, paper as fieldPaper};
+ghost use Rattle.flow.specs.Step.{paper as stepPaper};
 ghost use Rattle.judge.specs.File.{judged, paper as judgePaper};
 ghost use Rattle.sheet.specs.Write.{paper as transferPaper};
 ghost use Rattle.value.specs.Value.{valued, paper as valuePaper};
@@ -195,7 +196,7 @@ pub extern "C" fn screen_checksum(bytes: &[u8]) -> u32
 
 // What the step answers.
 fn step_cells(a: StepAnswer) -> [u64; 4]
-    ensures { λ r. ⌜ r ≡ stepCells a ⌝ }
+    ensures { λ r. ⌜ r ≡ stepCells (stepPaper a) ⌝ }
 {
     match a {
         StepAnswer::Refused(number) => [number as u64, 0, 0, 0],

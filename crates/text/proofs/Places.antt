@@ -27,13 +27,21 @@ all-at test d [] t h i = h
 all-at test d (x ∷ xs) t h zero = and-left (test x) (all test xs) t
 all-at test d (x ∷ xs) t h (suc i) = all-at test d xs (and-right (test x) (all test xs) t) h i
 
--- a chain of tests, name by name: the first that is the same decides, and one that is not leaves those after it
-module _ (name x : List ℕ) (i : ℕ) (xs : List (List ℕ)) where
-  pub place-here : sameBytes x name ≡ true → placeOf name i (x ∷ xs) ≡ i
-  place-here e = rw e
+-- a chain of tests, name by name: those before place i are passed, and these are left
+pub record Sought (names : List (List ℕ)) (name : List ℕ) (i : ℕ) (left : List (List ℕ)) : Type 0 where
+  pub is : placeOf name 1 names ≡ placeOf name i left
 
-  pub place-next : sameBytes x name ≡ false → placeOf name i (x ∷ xs) ≡ placeOf name (suc i) xs
-  place-next e = rw e
+pub sought-all : {names : List (List ℕ)} {name : List ℕ} → Sought names name 1 names
+sought-all = record { is = refl }
+
+module _ {names : List (List ℕ)} {name x : List ℕ} {i : ℕ} {left : List (List ℕ)} (s : Sought names name i (x ∷ left)) where
+  -- the first name that is the same decides
+  pub sought-here : sameBytes x name ≡ true → placeOf name 1 names ≡ i
+  sought-here e = s .is ∙ rw e
+
+  -- one that is not leaves the others
+  pub sought-next : sameBytes x name ≡ false → Sought names name (suc i) left
+  sought-next e = record { is = s .is ∙ rw e }
 
 -- at a place that is not 0 the name stands
 place-from : (name : List ℕ) (i : ℕ) (xs : List (List ℕ)) (j : ℕ) → placeOf name (suc i) xs ≡ suc j

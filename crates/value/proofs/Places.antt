@@ -24,8 +24,7 @@ use Rattle.judge.specs.File.{bar, verdict}
 use Rattle.judge.specs.declared.Verdict.{Verdict}
 use Rattle.judge.specs.declared.Verdict.the-variants as verdicts
 use Rattle.judge.proofs.Files.{inner}
-use Rattle.value.specs.Value.{recordAt, isThere, placeOf, textAt, asValue, answerIn, fieldValue, ofAccepted, valueBy, valueIn, paper, text}
-use Rattle.value.specs.Code.{TextWithin}
+use Rattle.value.specs.Value.{recordAt, isThere, placeOf, textAt, asValue, answerIn, fieldValue, ofAccepted, valueBy, valueIn, paper, text, TextWithin}
 use Rattle.value.specs.declared.Value.{Value}
 use Rattle.value.specs.declared.Value.the-variants.{Refused}
 
