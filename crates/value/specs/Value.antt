@@ -95,9 +95,9 @@ paper f (Text from to) = text from to (take (to - from) (drop from f))
 unfoldable pub valued : List ℕ → List ℕ → ℕ → ℕ → Reply
 valued name f n k = paper f (valueIn name f n k)
 
--- the place of a text is one within the file
+-- what is promised besides: the place of a text is one within the file
 abbrev pub TextWithin : List ℕ → Value → Type 0
-TextWithin f (Refused number r k) = Unit
+TextWithin f (Refused n r k) = Unit
 TextWithin f Empty = Unit
 TextWithin f (Number z) = Unit
 TextWithin f (Truth b) = Unit
