@@ -12,7 +12,7 @@ ghost use Rattle.text.specs.Characters.{all, isDigit, from-to, IsClassTable};
 ghost use Rattle.field.specs.Types.{Sound, widthRight, isNull};
 ghost use Rattle.field.specs.Judge.{bare, marked, mayBeEmpty, meetsMark, filled, fieldAnswer, fieldJudged, paper, refusalOf};
 ghost use Rattle.field.specs.Leaves.{digitsAnswer, intAnswer, negativeZero, decAnswer, pointedAnswer, moment, momentDigits, inCalendar, momentAnswer};
-ghost use Rattle.field.specs.Keys.{keyOrder};
+ghost use Rattle.field.specs.Keys.{byBytes, keyOrder};
 ghost use Rattle.field.specs.declared.FieldType.the-variants as types;
 ghost use Rattle.field.specs.declared.FieldAnswer.the-variants as answers;
 
@@ -437,18 +437,28 @@ pub fn judge(t: FieldType, m: Mark, fixed: &[u8], s: &[u8]) -> FieldAnswer
     judge_marked(t, m, fixed, &class, s)
 }
 
+// Keys of this type go by byte, not by value.
+fn by_bytes(t: FieldType) -> bool
+    ensures { λ r. ⌜ r ≡ byBytes t ⌝ }
+{
+    match t {
+        FieldType::Text(_) => true,
+        FieldType::Int(_) => false,
+        FieldType::Dec(_, _) => false,
+        FieldType::Date => false,
+        FieldType::Datetime => false,
+        FieldType::Bol => true,
+        FieldType::Period => false,
+        FieldType::Null => true,
+    }
+}
+
 // How the key a stands to the key b: texts by byte, all others by value.
 pub fn key_order(t: FieldType, a: &[u8], b: &[u8]) -> Order
     ensures { λ r. ⌜ r ≡ keyOrder t (now (a .entry)) (now (b .entry)) ⌝ }
 {
-    match t {
-        FieldType::Text(_) => text::text_order(a, b),
-        FieldType::Int(_) => number::whole_order(a, b),
-        FieldType::Dec(_, _) => number::whole_order(a, b),
-        FieldType::Date => number::whole_order(a, b),
-        FieldType::Datetime => number::whole_order(a, b),
-        FieldType::Bol => text::text_order(a, b),
-        FieldType::Period => number::whole_order(a, b),
-        FieldType::Null => text::text_order(a, b),
+    if by_bytes(t) {
+        return text::text_order(a, b);
     }
+    number::whole_order(a, b)
 }

@@ -1,15 +1,14 @@
 -- What the loop over a file keeps: the state is the summary of the records passed, and the slots say their last keys. Assumes nothing.
 use Prim.Native.Nat.{ℕ, zero, suc, _+_, _-_, _*_, _≤_, _<_, _^_, zero-le, suc-le-suc}
 use mathlib.Core.Path.{_≡_, refl, sym, ap, _∙_}
-use mathlib.Core.Bool.{Bool, true, false, cond}
 use mathlib.Core.List.{List, [], _∷_, _++_, foldl-append, map, append-nil}
 use native.Mathlib.Omega.{arith}
-use lib.Dec.{eqb, leb}
+use lib.Dec.{leb}
 use borrow.Author.Tests.{lt-leb, le-leb}
 use lib.ListN.{length, getD, take, drop, length-append, replicate}
 use lib.Seq.{drop-drop, take-take, take-nil, append-snoc}
 use Rattle.text.specs.Rules.{must}
-use Rattle.record.specs.Records.{records, onto, barred, IsPart}
+use Rattle.record.specs.Records.{records, barred, IsPart}
 use Rattle.record.specs.Checksum.{addRecord, checksum}
 use Rattle.record.proofs.Cutting.{records-le}
 use Rattle.record.proofs.Sums.{checksum-snoc}

@@ -1,6 +1,6 @@
 -- The tests stand in the order of the flows: the first name that is the same decides. Assumes nothing.
 use Prim.Native.Nat.{ℕ, suc}
-use mathlib.Core.Path.{_≡_, sym, _∙_}
+use mathlib.Core.Path.{sym, _∙_}
 use mathlib.Core.List.{List, map}
 use native.Mathlib.Omega.{arith}
 use denote.Ref.{now}
