@@ -1,7 +1,7 @@
 -- No second answer of the step meets its contract. Assumes nothing.
 use Prim.Native.Nat.{ℕ, suc, _*_}
-use mathlib.Core.Path.{_≡_, refl, sym, ap, _∙_, subst}
-use mathlib.Core.Bool.{Bool, true, false}
+use mathlib.Core.Path.{_≡_, refl, sym, ap, _∙_}
+use mathlib.Core.Bool.{Bool, true, false, false≢true}
 use mathlib.Core.List.{List, _∷_, [], _++_}
 use lib.Dec.{T}
 use lib.ListN.{length, drop}
@@ -11,13 +11,9 @@ use Rattle.grammar.proofs.Walks.{one-place, stopped-or-begun}
 use Rattle.flow.specs.declared.StepAnswer.{StepAnswer}
 use Rattle.flow.specs.declared.StepAnswer.the-variants.{Refused, Stopped, Through}
 use Rattle.flow.specs.Publication.{Flow}
-use Rattle.flow.specs.Flows.{held, flowNamed}
+use Rattle.flow.specs.Flows.{flowNamed}
 use Rattle.flow.specs.Step.{kindsIn, endToEnd, StoppedAt, WentThrough, Reply, refused, stopped, through, paper, ReplyRight, StepRight}
 use Rattle.flow.proofs.Chosen.{chosen-one}
-
--- no name is held and not held
-never : (b : Bool) → b ≡ true → b ≡ false → ⊥
-never b e q = subst T (sym e ∙ q) tt
 
 -- two tests that hold together are the same
 same-test : (a b : Bool) → (T a → T b) → (T b → T a) → a ≡ b
@@ -51,14 +47,14 @@ module _ (f : Flow) (ks : List (List ℕ)) (old : List ℕ) where
 pub one-reply : (name bytes old : List ℕ) (a b : Reply) (new other : List ℕ)
     → ReplyRight name bytes a old new → ReplyRight name bytes b old other → (a ≡ b) × (new ≡ other)
 one-reply name bytes old (refused m r f) (refused n q g) new other s t = (s .1 ∙ sym (t .1), s .2 ∙ sym (t .2))
-one-reply name bytes old (refused m r f) (stopped q) new other s t = absurd (never (held name) (t .0) (s .0))
-one-reply name bytes old (refused m r f) (through n b) new other s t = absurd (never (held name) (t .0) (s .0))
-one-reply name bytes old (stopped p) (refused n q g) new other s t = absurd (never (held name) (s .0) (t .0))
+one-reply name bytes old (refused m r f) (stopped q) new other s t = absurd (false≢true (sym (s .0) ∙ t .0))
+one-reply name bytes old (refused m r f) (through n b) new other s t = absurd (false≢true (sym (s .0) ∙ t .0))
+one-reply name bytes old (stopped p) (refused n q g) new other s t = absurd (false≢true (sym (t .0) ∙ s .0))
 one-reply name bytes old (stopped p) (stopped q) new other s t =
     one-stop (flowNamed name) (kindsIn bytes) old p q new other (s .1) (t .1)
 one-reply name bytes old (stopped p) (through n b) new other s t =
     absurd (stop-or-go (flowNamed name) (kindsIn bytes) old p n b new other (s .1) (t .1))
-one-reply name bytes old (through m a) (refused n q g) new other s t = absurd (never (held name) (s .0) (t .0))
+one-reply name bytes old (through m a) (refused n q g) new other s t = absurd (false≢true (sym (t .0) ∙ s .0))
 one-reply name bytes old (through m a) (stopped q) new other s t =
     absurd (stop-or-go (flowNamed name) (kindsIn bytes) old q m a other new (t .1) (s .1))
 one-reply name bytes old (through m a) (through n b) new other s t =

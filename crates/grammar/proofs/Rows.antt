@@ -1,17 +1,16 @@
 -- Rows of a table: the row of a kind. Assumes nothing.
-use Prim.Native.Nat.{ℕ, zero, suc, _+_, _<_}
+use Prim.Native.Nat.{ℕ, zero, suc, _<_}
 use native.Mathlib.Nat.{le-of-suc-le-suc, not-suc-le-zero}
 use native.Mathlib.Omega.{arith}
-use mathlib.Core.Path.{_≡_, refl, sym, ap₂, _∙_, subst}
-use mathlib.Core.Bool.{not}
+use mathlib.Core.Path.{_≡_, refl, sym, ap₂, _∙_}
 use mathlib.Core.Logic.{⊎-elim}
 use mathlib.Core.List.{List, [], _∷_}
-use lib.Dec.{T, T-not}
+use lib.Dec.{T}
 use lib.ListN.{length, getD}
 use Rattle.text.specs.Order.{sameBytes}
 use Rattle.text.specs.Places.{placeOf}
 use Rattle.text.proofs.Lists.{same→≡, same-refl}
-use Rattle.grammar.specs.Walk.{among, distinct}
+use Rattle.grammar.specs.Walk.{among}
 use Rattle.grammar.specs.Table.{rowOf, sameNames}
 use Rattle.text.proofs.Tests.{or-cases, or-left, or-right, and-left, and-right, cond-true, cond-false, by-test, holds}
 
@@ -36,22 +35,8 @@ row-none-from i (x ∷ xs) k e t =
 pub row-none : (names : List (List ℕ)) (k : List ℕ) → rowOf names k ≡ 0 → T (among k names) → ⊥
 row-none names k e t = row-none-from 0 names k e t
 
--- each name is one of the names, and where they are distinct its row is its own
+-- each name is one of the names
 pub among-at : (xs : List (List ℕ)) (m : ℕ) → m < length xs → T (among (getD xs m []) xs)
 among-at [] m h = absurd (not-suc-le-zero h)
 among-at (x ∷ xs) zero h = or-left (sameBytes x x) (among x xs) (holds (same-refl x))
 among-at (x ∷ xs) (suc m) h = or-right (sameBytes x (getD xs m [])) (among (getD xs m []) xs) (among-at xs m (le-of-suc-le-suc h))
-
-own-row-from : (i : ℕ) (xs : List (List ℕ)) (m : ℕ) → T (distinct xs) → m < length xs → placeOf (getD xs m []) (suc i) xs ≡ suc (i + m)
-own-row-from i [] m d h = absurd (not-suc-le-zero h)
-own-row-from i (x ∷ xs) zero d h = cond-true (sameBytes x x) _ _ (holds (same-refl x)) ∙ omega arith
-own-row-from i (x ∷ xs) (suc m) d h =
-    let k : List ℕ = getD xs m [] in
-    cond-false (sameBytes x k) _ _
-    (λ t. T-not (among x xs) (and-left (not (among x xs)) (distinct xs) d)
-    (subst (λ (y : List ℕ). T (among y xs)) (sym (same→≡ x k t)) (among-at xs m (le-of-suc-le-suc h))))
-    ∙ own-row-from (suc i) xs m (and-right (not (among x xs)) (distinct xs) d) (le-of-suc-le-suc h)
-    ∙ omega arith
-
-pub own-row : (names : List (List ℕ)) (m : ℕ) → T (distinct names) → m < length names → rowOf names (getD names m []) ≡ suc m
-own-row names m d h = own-row-from 0 names m d h ∙ omega arith

@@ -18,7 +18,7 @@ use Rattle.text.proofs.Places.{each-at, place-name, place-most}
 use Rattle.text.proofs.Tests.{and-left, and-right, cond-true, cond-false, by-test, holds, beq-eq, must-holds, must-fails}
 use Rattle.grammar.proofs.Walks.{right-walk, goes-through-iff, stops-first, may-iff, one-place, stopped-or-begun, never-both, through-one}
 use Rattle.grammar.proofs.Once.{has-among, once-by-test, may-has}
-use Rattle.grammar.proofs.Rows.{names-same, row-none, own-row}
+use Rattle.grammar.proofs.Rows.{names-same, row-none}
 
 -- two rules that let one walk go through let every walk go on
 both-hold : {S : Type 0} (a b : Bool) (i : ℕ) (s : S) (w v : Walked S) → must a (stopped i) (must b (stopped i) w) ≡ through s
@@ -56,16 +56,6 @@ goes-standing : (names : List (List ℕ)) (w : Walked ℕ) → Goes w ↔ Goes (
 goes-standing names (stopped i) = (λ t. t, λ t. t)
 goes-standing names (through r) = (λ t. tt, λ t. tt)
 
--- the row of a standing
-rowAt : List (List ℕ) → At → ℕ
-rowAt names start = 0
-rowAt names (last k) = rowOf names k
-
-row-at : (names : List (List ℕ)) → T (distinct names) → (r : ℕ) → r ≤ length names → rowAt names (atRow names r) ≡ r
-unfolding rowAt
-row-at names d zero h = refl
-row-at names d (suc j) h = own-row names j d h
-
 -- a number test says that the numbers are equal
 eqb-iff : (m n : ℕ) → (m ≡ n) ↔ T (eqb m n)
 eqb-iff m n = (λ e. subst (λ (x : ℕ). T (eqb m x)) e (eqb-refl m), λ t. eqb→eq m n t)
@@ -91,7 +81,7 @@ module _ (names : List (List ℕ)) (bit : ℕ → ℕ → Bool) (g : Sets) (ok :
   pub table-names : names ≡ kinds g
   table-names = names-same names (kinds g) (and-left (sameNames names (kinds g)) (distinct names) two-agree)
 
-  pub table-distinct : T (distinct names)
+  table-distinct : T (distinct names)
   table-distinct = and-right (sameNames names (kinds g)) (distinct names) two-agree
 
   -- each kind stands once
@@ -166,23 +156,9 @@ module _ (names : List (List ℕ)) (bit : ℕ → ℕ → Bool) (g : Sets) (ok :
   pub table-stops-iff : (ks : List (List ℕ)) (i : ℕ) → (tableWalk names bit 0 0 ks ≡ stopped i) ↔ StoppedRight g ks i
   table-stops-iff ks i = (λ e. table-stops-first ks i e, λ s. stops-there ks i (tableWalk names bit 0 0 ks) refl s)
 
-  -- it goes through to a row exactly when the grammar's walk goes through to the row's standing
+  -- where it goes through to a row, the grammar's walk goes through to the row's standing
   to-standing : (ks : List (List ℕ)) (r : ℕ) → tableWalk names bit 0 0 ks ≡ through r → walk g start 0 ks ≡ through (atRow names r)
   to-standing ks r e = table-walk ks ∙ ap (λ (w : Walked ℕ). standing names w) e
-
-  to-row : (ks : List (List ℕ)) (r : ℕ) → r ≤ length names → (w : Walked ℕ) → tableWalk names bit 0 0 ks ≡ w
-      → standing names w ≡ through (atRow names r) → w ≡ through r
-  to-row ks r h (stopped j) e s = absurd (never-both s)
-  to-row ks r h (through q) e s =
-      ap (λ (n : ℕ). through n)
-      (sym (row-at names table-distinct q (table-within names bit ks q e))
-      ∙ ap (λ (at : At). rowAt names at) (through-one s)
-      ∙ row-at names table-distinct r h)
-
-  pub table-through-iff : (ks : List (List ℕ)) (r : ℕ) → r ≤ length names
-      → (tableWalk names bit 0 0 ks ≡ through r) ↔ (walk g start 0 ks ≡ through (atRow names r))
-  table-through-iff ks r h =
-      (λ e. to-standing ks r e, λ e. to-row ks r h (tableWalk names bit 0 0 ks) refl (sym (table-walk ks) ∙ e))
 
   -- the last row is reached exactly when the list stands under the grammar
   pub table-through : (ks : List (List ℕ)) (r : ℕ) → tableWalk names bit 0 0 ks ≡ through r → ThroughRight g ks (eqb r (length names))
@@ -200,13 +176,7 @@ module _ (names : List (List ℕ)) (bit : ℕ → ℕ → Bool) (g : Sets) (ok :
       subst (λ (b : Bool). T b ↔ Completes g (ks ++ (getD names q [] ∷ []))) (sym (bit-may r q (table-within names bit ks r e) h))
       (may-iff g table-once ks (atRow names r) (to-standing ks r e) (getD names q []))
 
-  -- the same of a kind by its row, and no completion exists with a foreign one
-  pub table-next-iff : (ks : List (List ℕ)) (r : ℕ) → tableWalk names bit 0 0 ks ≡ through r → (k : List ℕ) (q : ℕ) → rowOf names k ≡ suc q
-      → T (bit r (suc q)) ↔ Completes g (ks ++ (k ∷ []))
-  table-next-iff ks r e k q h =
-      subst (λ (x : List ℕ). T (bit r (suc q)) ↔ Completes g (ks ++ (x ∷ []))) (place-name k names q h .1)
-      (table-may-iff ks r e q (place-name k names q h .0))
-
+  -- no completion exists with a foreign kind
   pub table-foreign-stops : (ks : List (List ℕ)) (r : ℕ) → tableWalk names bit 0 0 ks ≡ through r → (k : List ℕ) → rowOf names k ≡ 0
       → Completes g (ks ++ (k ∷ [])) → ⊥
   table-foreign-stops ks r e k h c =

@@ -8,6 +8,7 @@ use native.Mathlib.Omega.{arith}
 use lib.Dec.{T, eqb}
 use lib.ListN.{length, drop, length-append}
 use borrow.Author.Tests.{eqb-true, eq-eqb}
+use Rattle.text.specs.Characters.{all}
 use Rattle.text.specs.Rules.{must}
 use Rattle.text.proofs.Places.{all-at}
 use Rattle.text.proofs.Tests.{is-true}
@@ -32,7 +33,7 @@ use Rattle.judge.proofs.RightEach.{Each}
 use Rattle.judge.proofs.RightFields.{FineRecord, fine-each, is-typed, typed-is}
 use Rattle.judge.proofs.Passes.{Passes, passes, passed, must-accepted, bars, all-fine, last-spells}
 use Rattle.judge.proofs.RightKinds.{Placed, placed-under, under-placed, under-footer, footer-ends}
-use Rattle.judge.proofs.RightKeys.{keysFit, published-fits, keyFits, rules-are, ascends-from, key-fine}
+use Rattle.judge.proofs.RightKeys.{published-fits, keyFits, rules-are, ascends-from, key-fine}
 
 -- a line feed that is needed is there
 needed : (a b : Bool) → (not a || b) ≡ true → a ≡ true → b ≡ true
@@ -50,7 +51,7 @@ foot-right false c d h = refl
 
 -- for a flow whose layout agrees with its grammar, with a last kind that nothing follows, and keys that are never empty
 module _ (fl : Flow) (ok : agrees (names (fl .kinds)) (mayFollow (layoutFor fl)) (fl .grammar) ≡ true) (some : 1 ≤ length (names (fl .kinds)))
-    (closed : row (layoutFor fl) (length (names (fl .kinds))) .next ≡ 0) (fit : keysFit (fl .kinds) ≡ true) (f : List ℕ) (n : ℕ) where
+    (closed : row (layoutFor fl) (length (names (fl .kinds))) .next ≡ 0) (fit : all keyFits (fl .kinds) ≡ true) (f : List ℕ) (n : ℕ) where
   abbrev l : Layout
   l = layoutFor fl
 
@@ -148,7 +149,7 @@ module _ (fl : Flow) (ok : agrees (names (fl .kinds)) (mayFollow (layoutFor fl))
 
 -- each flow that we hold is such a flow, by one computed test over all of them
 flowFits : Flow → Bool
-flowFits fl = keysFit (fl .kinds) && eqb (row (layoutFor fl) (length (names (fl .kinds))) .next) 0
+flowFits fl = all keyFits (fl .kinds) && eqb (row (layoutFor fl) (length (names (fl .kinds))) .next) 0
 
 flow-fits : (n : ℕ) → T (flowFits (flowAt n))
 unfolding flowFits
@@ -169,8 +170,8 @@ module _ (name f : List ℕ) (n : ℕ) where
       let fl = flowNamed name in
       let e = is-true _ (flow-fits (flowNumber name)) in
       right-for fl (tables-agree (flowNumber name)) (some-kind (flowNumber name))
-      (eqb-true _ _ (and-right (keysFit (fl .kinds)) (eqb (row (layoutFor fl) (length (names (fl .kinds))) .next) 0) e))
-      (and-left (keysFit (fl .kinds)) (eqb (row (layoutFor fl) (length (names (fl .kinds))) .next) 0) e) f n
+      (eqb-true _ _ (and-right (all keyFits (fl .kinds)) (eqb (row (layoutFor fl) (length (names (fl .kinds))) .next) 0) e))
+      (and-left (all keyFits (fl .kinds)) (eqb (row (layoutFor fl) (length (names (fl .kinds))) .next) 0) e) f n
 
   to-right : judged name f ≡ accepted n → Right name f n
   unfolding judged verdict

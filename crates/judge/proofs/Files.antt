@@ -1,11 +1,11 @@
 -- What the loop over a file keeps: the state is the summary of the records passed, and the slots say their last keys. Assumes nothing.
-use Prim.Native.Nat.{ℕ, zero, suc, _+_, _-_, _*_, _≤_, _<_, _^_, zero-le, suc-le-suc}
+use Prim.Native.Nat.{ℕ, zero, suc, _+_, _-_, _*_, _≤_, _<_, _^_, zero-le}
 use mathlib.Core.Path.{_≡_, refl, sym, ap, _∙_}
 use mathlib.Core.List.{List, [], _∷_, _++_, foldl-append, map, append-nil}
 use native.Mathlib.Omega.{arith}
 use lib.Dec.{leb}
 use borrow.Author.Tests.{lt-leb, le-leb}
-use lib.ListN.{length, getD, take, drop, length-append, replicate}
+use lib.ListN.{length, getD, take, drop, length-append, length-take, replicate}
 use lib.Seq.{drop-drop, take-take, take-nil, append-snoc}
 use Rattle.text.specs.Rules.{must}
 use Rattle.record.specs.Records.{records, barred, IsPart}
@@ -162,9 +162,7 @@ drop-take (suc a) (suc n) (x ∷ s) =
     rw q (drop-take a n s)
 
 pub take-short : (n : ℕ) (s : List ℕ) → length (take n s) ≤ n
-take-short zero s = zero-le
-take-short (suc n) [] = zero-le
-take-short (suc n) (x ∷ s) = suc-le-suc (take-short n s)
+take-short n s = omega (arith, length-take n s)
 
 -- a part of a record is a part of the file
 pub inner : (f : List ℕ) (start end from to : ℕ) (p : List ℕ) → IsPart (take (end - start) (drop start f)) from to p

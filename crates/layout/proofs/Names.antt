@@ -10,7 +10,7 @@ use lib.Dec.{T}
 use lib.ListN.{length, getD, drop, length-drop, length-map, List·getD-map}
 use lib.Seq.{getD-drop}
 use Rattle.text.specs.Order.{sameBytes}
-use Rattle.text.proofs.Lists.{same→≡, same-refl}
+use Rattle.text.proofs.Lists.{same→≡, same-refl, three-of}
 use Rattle.text.proofs.Places.{place-name, place-most}
 use Rattle.layout.specs.Layout.{KindRow, Layout, row, blank, rowNames, find, kindNamed}
 use Rattle.layout.specs.Numbers.{word, cell, nameOf, rowOf, rowCount, layoutOf}
@@ -45,13 +45,6 @@ pub record Spells (name : List ℕ) (n : ℕ) : Type 0 where
   pub third : getD name 2 0 < 256
   pub is : n ≡ getD name 0 0 * 65536 + getD name 1 0 * 256 + getD name 2 0
 
-three-bytes : (s : List ℕ) → length s ≡ 3 → s ≡ getD s 0 0 ∷ getD s 1 0 ∷ getD s 2 0 ∷ []
-three-bytes [] h = absurd (omega arith)
-three-bytes (a ∷ []) h = absurd (omega arith)
-three-bytes (a ∷ b ∷ []) h = absurd (omega arith)
-three-bytes (a ∷ b ∷ c ∷ []) h = refl
-three-bytes (a ∷ b ∷ c ∷ d ∷ s) h = absurd (omega arith)
-
 -- a number's name is these bytes exactly where its lowest 24 bits are the number that they are
 module _ (name : List ℕ) (n : ℕ) (s : Spells name n) (w : ℕ) where
   pub number→name : w % 16777216 ≡ n → nameOf w ≡ name
@@ -59,7 +52,7 @@ module _ (name : List ℕ) (n : ℕ) (s : Spells name n) (w : ℕ) where
       let a : w / 65536 % 256 ≡ getD name 0 0 = omega arith in
       let b : w / 256 % 256 ≡ getD name 1 0 = omega arith in
       let c : w % 256 ≡ getD name 2 0 = omega arith in
-      (λ i. a i ∷ b i ∷ c i ∷ []) ∙ sym (three-bytes name (s .three))
+      (λ i. a i ∷ b i ∷ c i ∷ []) ∙ sym (three-of 0 name (s .three))
 
   pub name→number : nameOf w ≡ name → w % 16777216 ≡ n
   name→number e =

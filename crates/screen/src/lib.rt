@@ -12,11 +12,12 @@ ghost use Prim.Native.Nat.{ℕ};
 ghost use lib.ListN.{length};
 ghost use Rattle.record.specs.Checksum.{checksumOf};
 ghost use Rattle.field.specs.Judge.{marked, paper as fieldPaper};
+ghost use Rattle.field.specs.Codes.{typeCoded, markCoded};
 ghost use Rattle.flow.specs.Step.{paper as stepPaper};
 ghost use Rattle.judge.specs.File.{judged, paper as judgePaper};
 ghost use Rattle.sheet.specs.Write.{paper as transferPaper};
 ghost use Rattle.value.specs.Value.{valued, paper as valuePaper};
-ghost use Rattle.screen.specs.Numbers.{refusalCells, judgeCells, transferCells, WroteCells, ReadCells, flagOf, numberCells, valueCells, fieldCells, typeCoded, markCoded, fieldAsked, stepCells, Stepped};
+ghost use Rattle.screen.specs.Numbers.{refusalCells, judgeCells, transferCells, WroteCells, ReadCells, flagOf, numberCells, valueCells, fieldCells, fieldAsked, stepCells, Stepped};
 
 // A refusal's number, record and field.
 fn refusal_cells(number: usize, r: usize, f: usize) -> [u64; 4]
@@ -121,7 +122,7 @@ pub extern "C" fn screen_value(flow: &[u8], file: &[u8], n: usize, k: usize, ans
 
 // The type of a code, with its widths.
 fn type_coded(code: u32, p: usize, q: usize) -> FieldType
-    ensures { λ r. ⌜ r ≡ typeCoded code p q ⌝ }
+    ensures { λ r. ⌜ r ≡ typeCoded code p p q ⌝ }
 {
     match code {
         0 => FieldType::Text(p),

@@ -7,6 +7,7 @@ use native.Mathlib.Omega.{arith}
 use lib.Dec.{eqb, leb}
 use lib.ListN.{length, getD, length-append}
 use borrow.Author.Tests.{eqb-true, eqb-false}
+use Rattle.text.proofs.Lists.{three-of}
 use Rattle.record.specs.Records.{onto, records, fields, field, joined, holds, someHolds}
 use Rattle.record.specs.Checksum.{checksum}
 use Rattle.record.proofs.Cutting.{neither, records-joined, records-free, joined-ended, joined-not-ended}
@@ -46,13 +47,6 @@ unfolding parted fields
 parted-fields sep [] = refl
 parted-fields sep (b ∷ s) = parted-go sep b (fields sep s) s (eqb b sep) refl (fields-some sep s) (parted-fields sep s)
 
-three : (ps : List (List ℕ)) → length ps ≡ 3 → ps ≡ getD ps 0 [] ∷ getD ps 1 [] ∷ getD ps 2 [] ∷ []
-three [] h = absurd (omega arith)
-three (a ∷ []) h = absurd (omega arith)
-three (a ∷ b ∷ []) h = absurd (omega arith)
-three (a ∷ b ∷ c ∷ []) h = refl
-three (a ∷ b ∷ c ∷ d ∷ ps) h = absurd (omega arith)
-
 -- the last record of an accepted file is the footer that is made for the records before it
 module _ (l : Layout) (proper : ProperFooter l) (f : List ℕ) (n : ℕ) (p : Passes l f n) (before : List (List ℕ)) (r : List ℕ)
     (whole : records f ≡ before ++ r ∷ []) where
@@ -78,7 +72,7 @@ module _ (l : Layout) (proper : ProperFooter l) (f : List ℕ) (n : ℕ) (p : Pa
   pub footer-made : r ≡ footer (length before + 1) (checksum before)
   unfolding parted footer
   footer-made =
-      sym (parted-fields bar r) ∙ ap (parted bar) (three (fields bar r) many)
+      sym (parted-fields bar r) ∙ ap (parted bar) (three-of [] (fields bar r) many)
       ∙ (λ i. parted bar (one i ∷ two i ∷ sum i ∷ []))
 
 -- the last of some records, and those before it
