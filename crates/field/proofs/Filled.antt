@@ -11,11 +11,11 @@ use lib.Seq.{length-take-le}
 use borrow.Author.Tests.{ltb-true, leb-true, le-leb, lt-leb}
 use Rattle.text.specs.Characters.{all, isDigit, from-to}
 use Rattle.text.specs.Rules.{must}
-use Rattle.number.specs.Numbers.{number, numberFrom, minus, unsigned, signed, plain, isZero, intForm, intValue, decForm, decValue}
+use Rattle.number.specs.Numbers.{digits, number, numberFrom, minus, unsigned, signed, plain, isZero, intForm, intValue, decForm, decValue}
 use Rattle.field.specs.Types.{form, range, valueOf, periodRange, widthRight, Sound}
 use Rattle.field.specs.Judge.{Marked, bare, marked, mayBeEmpty, meetsMark, filled, refusalOf}
 use Rattle.number.specs.Leaves.{leads}
-use Rattle.field.specs.Leaves.{digitsAnswer, intAnswer, negativeZero, decAnswer, pointedAnswer}
+use Rattle.field.specs.Leaves.{digitsAnswer, intAnswer, negativeZero, decAnswer, pointedAnswer, moment, momentDigits, momentAnswer}
 use Rattle.field.specs.declared.Mark.{Mark}
 use Rattle.field.specs.declared.Mark.the-variants as marks
 use Rattle.field.specs.declared.FieldType.{FieldType}
@@ -142,6 +142,17 @@ dec-signed below p q d =
 pub dec-is : (p q : ℕ) (s : List ℕ) → filled (types.Dec p q) bare s ≡ pointedAnswer (minus s) p q (unsigned s)
 unfolding filled form range valueOf decForm decValue
 dec-is p q s = dec-signed (minus s) p q (unsigned s)
+
+-- a moment is its digits and what the calendar has
+pub moment-is : (timed : Bool) (s : List ℕ)
+    → filled (moment timed) bare s ≡ must (digits (momentDigits timed) s) (Refused 8) (momentAnswer timed (number s))
+unfolding filled form range valueOf
+moment-is false s = refl
+moment-is true s = refl
+
+pub moment-short : (timed : Bool) → momentDigits timed ≤ 18
+moment-short false = omega arith
+moment-short true = omega arith
 
 -- a value is no refusal
 value-holds : (t : FieldType) (s : List ℕ) → refusalOf (valueOf t s) ≡ 0

@@ -1,4 +1,5 @@
 pub mod Filled
+pub mod Codes
 pub mod EachByValue
 pub mod OneAnswer
 pub mod Examples

@@ -4,16 +4,15 @@ use text::Order;
 ghost use mathlib.Core.Path.{_≡_};
 ghost use mathlib.Core.Bool.{_&&_};
 ghost use mathlib.Core.List.{[]};
-ghost use Prim.Native.Nat.{_<_, _≤_, _^_, _+_, _*_, _/_, _%_};
+ghost use Prim.Native.Nat.{_<_, _≤_, _^_, _+_, _*_};
 ghost use lib.IntN.{pos};
 ghost use lib.ListN.{length};
 ghost use Rattle.text.specs.Rules.{must};
 ghost use Rattle.text.specs.Characters.{all, isDigit, from-to, IsClassTable};
-ghost use Rattle.number.specs.Calendar.{isDate, isTime};
 ghost use Rattle.field.specs.Types.{Sound, widthRight, isNull};
 ghost use Rattle.field.specs.Judge.{bare, marked, mayBeEmpty, meetsMark, filled, fieldAnswer, fieldJudged, paper, refusalOf};
-ghost use Rattle.field.specs.Leaves.{digitsAnswer, intAnswer, negativeZero, decAnswer, pointedAnswer};
-ghost use Rattle.field.specs.Keys.{keyOrder};
+ghost use Rattle.field.specs.Leaves.{digitsAnswer, intAnswer, negativeZero, decAnswer, pointedAnswer, moment, momentDigits, inCalendar, momentAnswer};
+ghost use Rattle.field.specs.Keys.{byBytes, keyOrder};
 ghost use Rattle.field.specs.declared.FieldType.the-variants as types;
 ghost use Rattle.field.specs.declared.FieldAnswer.the-variants as answers;
 
@@ -163,55 +162,56 @@ pub fn judge_dec(s: &[u8], p: usize, q: usize) -> FieldAnswer
     dec_of(number::minus(s), number::unsigned(s), p, q)
 }
 
-// Eight digits as one number.
-fn date_answer(v: u64) -> FieldAnswer
-    requires { ⌜ v < 2 ^ 63 ⌝ }
-    ensures { λ r. ⌜ r ≡ must (isDate v) (answers.Refused 9) (answers.Number (pos v)) ⌝ }
+// A day of the calendar, or that and a time of the day behind it.
+fn in_calendar(timed: bool, v: u64) -> bool
+    ensures { λ r. ⌜ r ≡ inCalendar timed v ⌝ }
 {
-    if !number::is_date(v) {
+    if !timed {
+        return number::is_date(v);
+    }
+    if !number::is_date(v / 1000000) {
+        return false;
+    }
+    number::is_time(v % 1000000)
+}
+
+// The digits of a moment as one number.
+fn moment_answer(timed: bool, v: u64) -> FieldAnswer
+    requires { ⌜ v < 2 ^ 63 ⌝ }
+    ensures { λ r. ⌜ r ≡ momentAnswer timed v ⌝ }
+{
+    if !in_calendar(timed, v) {
         return FieldAnswer::Refused(9);
     }
     FieldAnswer::Number(number::signed(false, v))
+}
+
+// A moment is so many digits, then what the calendar has.
+fn judge_moment(timed: bool, n: usize, s: &[u8]) -> FieldAnswer
+    requires { ⌜ n ≡ momentDigits timed ⌝ }
+    ensures { λ r. ⌜ r ≡ filled (moment timed) bare (now (s .entry)) ⌝ }
+{
+    if s.len() != n {
+        return FieldAnswer::Refused(8);
+    }
+    match number::read_digits(0, s) {
+        Spelt::Digits(v) => moment_answer(timed, v),
+        Spelt::Other => FieldAnswer::Refused(8),
+    }
 }
 
 // A date is 8 digits, then a day of the calendar.
 pub fn judge_date(s: &[u8]) -> FieldAnswer
     ensures { λ r. ⌜ r ≡ filled types.Date bare (now (s .entry)) ⌝ }
 {
-    if s.len() != 8 {
-        return FieldAnswer::Refused(8);
-    }
-    match number::read_digits(0, s) {
-        Spelt::Digits(v) => date_answer(v),
-        Spelt::Other => FieldAnswer::Refused(8),
-    }
-}
-
-// Fourteen digits as one number.
-fn datetime_answer(v: u64) -> FieldAnswer
-    requires { ⌜ v < 2 ^ 63 ⌝ }
-    ensures { λ r. ⌜ r ≡ must (isDate (v / 1000000) && isTime (v % 1000000)) (answers.Refused 9) (answers.Number (pos v)) ⌝ }
-{
-    if !number::is_date(v / 1000000) {
-        return FieldAnswer::Refused(9);
-    }
-    if !number::is_time(v % 1000000) {
-        return FieldAnswer::Refused(9);
-    }
-    FieldAnswer::Number(number::signed(false, v))
+    judge_moment(false, 8, s)
 }
 
 // A datetime is 14 digits, then a day of the calendar and a time of the day.
 pub fn judge_datetime(s: &[u8]) -> FieldAnswer
     ensures { λ r. ⌜ r ≡ filled types.Datetime bare (now (s .entry)) ⌝ }
 {
-    if s.len() != 14 {
-        return FieldAnswer::Refused(8);
-    }
-    match number::read_digits(0, s) {
-        Spelt::Digits(v) => datetime_answer(v),
-        Spelt::Other => FieldAnswer::Refused(8),
-    }
+    judge_moment(true, 14, s)
 }
 
 // T or F.
@@ -437,18 +437,28 @@ pub fn judge(t: FieldType, m: Mark, fixed: &[u8], s: &[u8]) -> FieldAnswer
     judge_marked(t, m, fixed, &class, s)
 }
 
+// Keys of this type go by byte, not by value.
+fn by_bytes(t: FieldType) -> bool
+    ensures { λ r. ⌜ r ≡ byBytes t ⌝ }
+{
+    match t {
+        FieldType::Text(_) => true,
+        FieldType::Int(_) => false,
+        FieldType::Dec(_, _) => false,
+        FieldType::Date => false,
+        FieldType::Datetime => false,
+        FieldType::Bol => true,
+        FieldType::Period => false,
+        FieldType::Null => true,
+    }
+}
+
 // How the key a stands to the key b: texts by byte, all others by value.
 pub fn key_order(t: FieldType, a: &[u8], b: &[u8]) -> Order
     ensures { λ r. ⌜ r ≡ keyOrder t (now (a .entry)) (now (b .entry)) ⌝ }
 {
-    match t {
-        FieldType::Text(_) => text::text_order(a, b),
-        FieldType::Int(_) => number::whole_order(a, b),
-        FieldType::Dec(_, _) => number::whole_order(a, b),
-        FieldType::Date => number::whole_order(a, b),
-        FieldType::Datetime => number::whole_order(a, b),
-        FieldType::Bol => text::text_order(a, b),
-        FieldType::Period => number::whole_order(a, b),
-        FieldType::Null => text::text_order(a, b),
+    if by_bytes(t) {
+        return text::text_order(a, b);
     }
+    number::whole_order(a, b)
 }

@@ -10,10 +10,10 @@ use lib.Dec.{T}
 use lib.ListN.{length, getD}
 use Rattle.text.specs.Order.{sameBytes}
 use Rattle.text.proofs.Lists.{same→≡}
-use Rattle.layout.specs.Layout.{KindRow, Layout, mayFollow}
+use Rattle.layout.specs.Layout.{KindRow, Layout, rowNames, mayFollow}
 use Rattle.grammar.specs.Walk.{among}
-use Rattle.grammar.proofs.Tests.{or-cases, or-left, or-right}
-use Rattle.flow.specs.ByTable.{rowNames, followersFrom}
+use Rattle.text.proofs.Tests.{or-cases, or-left, or-right}
+use Rattle.flow.specs.ByTable.{followersFrom}
 use Rattle.flow.specs.Step.{Chosen, none, takes, passes}
 
 module _ (P : List ℕ → Type 0) where

@@ -11,7 +11,8 @@ use Rattle.grammar.specs.Sets.{Under}
 use Rattle.grammar.specs.Right.{Completes, StoppedRight}
 use Rattle.grammar.specs.Table.{rowOf}
 use Rattle.grammar.specs.Walk.{among, Walked, stopped, through, Goes}
-use Rattle.grammar.proofs.Rows.{row-name, among-at}
+use Rattle.text.proofs.Places.{place-name}
+use Rattle.grammar.proofs.Rows.{among-at}
 use Rattle.grammar.proofs.Walks.{under-completes}
 use Rattle.grammar.proofs.TableWalks.{table-goes-iff, table-stops-iff, table-complete-iff, table-may-iff, table-foreign-stops}
 use Rattle.flow.specs.Publication.{Flow, names, layoutFor}
@@ -79,7 +80,7 @@ module _ (n : ℕ) (ks : List (List ℕ)) where
       known : (q : ℕ) → rowOf kinds k ≡ q → Completes (f .grammar) (ks ++ (k ∷ [])) → T (among k kinds)
       known zero z c = absurd (table-foreign-stops kinds (mayFollow (layoutFor f)) (f .grammar) (tables-agree n) ks r e k z c)
       known (suc q) z c =
-          subst (λ (x : List ℕ). T (among x kinds)) (row-name kinds k q z .1) (among-at kinds q (row-name kinds k q z .0))
+          subst (λ (x : List ℕ). T (among x kinds)) (place-name k kinds q z .1) (among-at kinds q (place-name k kinds q z .0))
 
 -- the table and the grammar of flow number n agree
 pub demand3 : (n : ℕ) → Demand3 (flowAt n)

@@ -5,19 +5,16 @@ use mathlib.Core.List.{List, [], _∷_, _++_, append-assoc, append-nil}
 use native.Mathlib.Omega.{arith}
 use lib.ListN.{length, getD, set, take, drop, length-append}
 use lib.Seq.{sets, sets-eq, take-at, drop-at, drop-drop}
+use Rattle.text.proofs.Lists.{three-of}
 use Rattle.flow.specs.Step.{endToEnd, Lists}
 
 -- three stores are the run of stores
 pub put-three : (l name : List ℕ) (at : ℕ) → length name ≡ 3
     → set (set (set l at (getD name 0 0)) (at + 1) (getD name 1 0)) (at + 2) (getD name 2 0) ≡ sets l at name
-put-three l [] at h = absurd (omega arith)
-put-three l (a ∷ []) at h = absurd (omega arith)
-put-three l (a ∷ b ∷ []) at h = absurd (omega arith)
-put-three l (a ∷ b ∷ c ∷ []) at h =
+put-three l name at h =
     let x : at + 1 ≡ suc at = omega arith in
     let y : at + 2 ≡ suc (suc at) = omega arith in
-    rw (x, y)
-put-three l (a ∷ b ∷ c ∷ d ∷ s) at h = absurd (omega arith)
+    rw (x, y) (ap (sets l at) (sym (three-of 0 name h)))
 
 -- one name more
 end-to-end : (ns : List (List ℕ)) (n : List ℕ) → endToEnd (ns ++ (n ∷ [])) ≡ endToEnd ns ++ n

@@ -1,31 +1,26 @@
 -- One step of the walk over bytes. Assumes nothing.
-use Prim.Native.Nat.{ℕ, suc, _+_, _-_, _<_, _≤_}
+use Prim.Native.Nat.{ℕ, _+_, _-_, _<_, _≤_}
 use mathlib.Core.Path.{_≡_, refl, sym, ap, _∙_}
-use mathlib.Core.Bool.{true, false, cond}
+use mathlib.Core.Bool.{true, false}
 use mathlib.Core.List.{List, [], _∷_}
 use native.Mathlib.Numerals.{add-one}
 use native.Mathlib.Omega.{arith}
 use borrow.Author.Tests.{ne-eqb}
 use lib.ListN.{length, take, drop, length-drop}
-use Rattle.text.specs.Order.{sameBytes}
-use Rattle.layout.specs.Layout.{KindRow, Layout, find, kindNamed, mayFollow}
+use Rattle.layout.specs.Layout.{Layout, find, kindNamed, mayFollow}
 use Rattle.layout.specs.Numbers.{layoutOf}
 use Rattle.layout.proofs.Names.{find-long}
-use Rattle.grammar.specs.Table.{rowFrom, rowOf, tableWalk}
+use Rattle.grammar.specs.Table.{rowOf, tableWalk}
 use Rattle.flow.specs.declared.Walked.{Walked}
 use Rattle.flow.specs.declared.Walked.the-variants.{Stopped, Through}
-use Rattle.flow.specs.ByTable.{rowNames, kindNames, fromOne}
+use Rattle.flow.specs.ByTable.{kindNames, fromOne}
 use Rattle.flow.specs.Step.{kindsIn}
 use Rattle.flow.proofs.KindsIn.{kinds-cut, kinds-next, kinds-end}
 
 -- a kind's row among the names is the layout's
-row-from-is : (k : List ℕ) (i : ℕ) (rs : List KindRow) → rowFrom i (rowNames rs) k ≡ find k i rs
-unfolding find
-row-from-is k i [] = refl
-row-from-is k i (r ∷ rs) = ap (λ (n : ℕ). cond (sameBytes (r .name) k) i n) (row-from-is k (suc i) rs)
-
 pub row-is-kind : (l : Layout) (k : List ℕ) → rowOf (kindNames l) k ≡ kindNamed l k
-row-is-kind l k = row-from-is k 1 (drop 1 (l .rows))
+unfolding find
+row-is-kind l k = refl
 
 -- the walk from kind last on, with i kinds passed
 abbrev pub walkFrom : Layout → ℕ → ℕ → List (List ℕ) → Walked

@@ -5,17 +5,12 @@ use mathlib.Core.Bool.{Bool, true, false, cond}
 use mathlib.Core.List.{List, [], _∷_}
 use lib.ListN.{drop}
 use lib.Seq.{sets}
-use Rattle.layout.specs.Layout.{KindRow, Layout, mayFollow}
+use Rattle.layout.specs.Layout.{KindRow, Layout, rowNames, mayFollow}
 use Rattle.grammar.specs.Table.{tableWalk}
 use Rattle.grammar.specs.Walk as grammar
 use Rattle.flow.specs.Publication.{Flow, names, layoutFor}
 use Rattle.flow.specs.declared.Walked.{Walked}
 use Rattle.flow.specs.declared.Walked.the-variants.{Stopped, Through}
-
--- the names of some rows
-abbrev pub rowNames : List KindRow → List (List ℕ)
-rowNames [] = []
-rowNames (r ∷ rs) = r .name ∷ rowNames rs
 
 -- the names of a layout's kinds
 abbrev pub kindNames : Layout → List (List ℕ)

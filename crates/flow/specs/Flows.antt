@@ -1,14 +1,15 @@
 -- The six flows (document 01, "The six flows"), line by line. Assumes nothing.
 use Prim.Native.Nat.{ℕ, _-_}
 use mathlib.Core.Bool.{Bool, true, false, not}
-use mathlib.Core.List.{List, [], _∷_}
+use mathlib.Core.List.{List, [], _∷_, map}
 use lib.Dec.{eqb}
 use lib.ListN.{getD}
+use Rattle.text.specs.Places.{placeOf}
 use Rattle.layout.specs.Layout.{Rule}
 use Rattle.grammar.specs.Sets.{Sets, Nothing, Kind, Then, AnyNumber, OneOrMore, Either}
 use Rattle.flow.specs.Letters.{ZHD, ZPT, ZPD, HDR, GSP, GS2, GS7, SUP, BMU, SB1, CM1, SB2, CM2, SUB, TA2, SP7}
 use Rattle.flow.specs.Letters.{P0012001, P0181002, P0133001, P0134001, P0138001, P0164001, B, G, H, M, X, Z, nought}
-use Rattle.flow.specs.Publication.{Flow, PublishedKind, placeOf, kind, keyed, keyedWithin}
+use Rattle.flow.specs.Publication.{Flow, PublishedKind, kind, keyed, keyedWithin}
 use Rattle.flow.specs.Publication.{text, int, dec, date, datetime, bol, period, null, optional, is}
 
 -- every flow: file type text(8) =flow, from role text(1), from id text(4), to role text(1), to id text(4), creation datetime
@@ -128,14 +129,9 @@ p0164 =
 abbrev pub flows : List Flow
 flows = p0012 ∷ p0181 ∷ p0133 ∷ p0134 ∷ p0138 ∷ p0164 ∷ []
 
--- the names of some flows
-abbrev pub flowNames : List Flow → List (List ℕ)
-flowNames [] = []
-flowNames (f ∷ fs) = f .name ∷ flowNames fs
-
 -- the number of the flow of this name, from 1; 0 where we hold none
 unfoldable pub flowNumber : List ℕ → ℕ
-flowNumber name = placeOf name 1 (flowNames flows)
+flowNumber name = placeOf name 1 (map (λ (f : Flow). f .name) flows)
 
 -- we hold a flow of this name
 abbrev pub held : List ℕ → Bool

@@ -3,7 +3,7 @@
 use Prim.Native.Nat.{ℕ, suc, _+_, _^_}
 use mathlib.Core.Bool.{Bool, cond}
 use mathlib.Core.List.{List, [], _∷_, map}
-use Rattle.text.specs.Order.{sameBytes}
+use Rattle.text.specs.Places.{placeOf}
 use Rattle.field.specs.Judge.{bare, opt, fixed}
 use Rattle.field.specs.declared.FieldType.the-variants as types
 use Rattle.layout.specs.Layout.{Rule, KindRow, Layout}
@@ -24,15 +24,9 @@ pub record Flow : Type 0 where
   pub kinds : List PublishedKind
   pub feed : Bool
 
--- the place of a name among names, counted from i; 0 where it is none of them
-abbrev pub placeOf : List ℕ → ℕ → List (List ℕ) → ℕ
-placeOf n i [] = 0
-placeOf n i (m ∷ ms) = cond (sameBytes m n) i (placeOf n (suc i) ms)
-
 -- the names of a flow's kinds
 abbrev pub names : List PublishedKind → List (List ℕ)
-names [] = []
-names (k ∷ ks) = k .name ∷ names ks
+names ks = map (λ (k : PublishedKind). k .name) ks
 
 -- the kinds that the grammar lets follow, as a set: the i-th name is bit i
 abbrev pub setOf : Sets → At → ℕ → List (List ℕ) → ℕ

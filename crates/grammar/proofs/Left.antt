@@ -9,7 +9,7 @@ use Rattle.text.specs.Order.{sameBytes}
 use Rattle.text.proofs.Lists.{same→≡, same-refl}
 use Rattle.grammar.specs.Sets.{Sets, Nothing, Kind, Then, AnyNumber, OneOrMore, Perhaps, Either, Under, empty, alone, joined, none, again, some, absent, present, this, other}
 use Rattle.grammar.specs.Walk.{has, nullable, first, after, firsts, Apart, Once}
-use Rattle.grammar.proofs.Tests.{or-cases, or-left, or-right, or-second, and-left, and-right, and-both, cond-true, cond-false, by-test, holds}
+use Rattle.text.proofs.Tests.{or-cases, or-left, or-right, or-second, and-left, and-right, and-both, cond-true, cond-false, by-test, holds}
 use Rattle.grammar.proofs.Runs.{cons-parts, Run, run-join, run-split, run-behind, run-before, null-yes, null-of}
 
 -- a kind that may come first stands in the set

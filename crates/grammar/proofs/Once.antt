@@ -9,7 +9,7 @@ use Rattle.text.specs.Order.{sameBytes}
 use Rattle.text.proofs.Lists.{same→≡, same-refl}
 use Rattle.grammar.specs.Sets.{Sets, Nothing, Kind, Then, AnyNumber, OneOrMore, Perhaps, Either}
 use Rattle.grammar.specs.Walk.{has, nullable, first, after, firsts, kinds, among, distinct, Once, At, start, last, may}
-use Rattle.grammar.proofs.Tests.{or-cases, or-left, or-right, and-left, and-right, and-both, holds}
+use Rattle.text.proofs.Tests.{or-cases, or-left, or-right, and-left, and-right, and-both, holds}
 use Rattle.grammar.proofs.Left.{first-has}
 
 -- a kind is one of two lists joined where it is one of the first or of the second

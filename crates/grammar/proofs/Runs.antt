@@ -6,7 +6,7 @@ use mathlib.Core.List.{List, [], _∷_, _++_, append-nil, append-assoc, cons≢n
 use lib.Dec.{T}
 use Rattle.grammar.specs.Sets.{Sets, Nothing, Kind, Then, AnyNumber, OneOrMore, Perhaps, Either, Under, empty, alone, joined, none, again, some, absent, present, this, other}
 use Rattle.grammar.specs.Walk.{nullable, nulls}
-use Rattle.grammar.proofs.Tests.{or-cases, or-left, or-right, and-left, and-right, and-both}
+use Rattle.text.proofs.Tests.{or-cases, or-left, or-right, and-left, and-right, and-both}
 
 -- how a joined list can be empty, and how it can begin
 pub nil-parts : (s t : List (List ℕ)) → s ++ t ≡ [] → (s ≡ []) × (t ≡ [])

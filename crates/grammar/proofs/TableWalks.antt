@@ -8,15 +8,17 @@ use mathlib.Core.Logic.{_↔_, Iff·trans}
 use mathlib.Core.List.{List, [], _∷_, _++_}
 use lib.Dec.{T, eqb, eqb→eq, eqb-refl, eqb·suc-zero}
 use lib.ListN.{length, getD}
+use Rattle.text.specs.Places.{each}
 use Rattle.text.specs.Rules.{must}
 use Rattle.grammar.specs.Sets.{Sets, Under}
 use Rattle.grammar.specs.Right.{Completes, StoppedRight, ThroughRight}
 use Rattle.grammar.specs.Walk.{kinds, among, distinct, Once, At, start, last, may, ends, Walked, stopped, through, walk, Goes, RightWalk}
-use Rattle.grammar.specs.Table.{rowOf, atRow, sameNames, each, rowAgrees, agrees, tableWalk, standing}
-use Rattle.grammar.proofs.Tests.{and-left, and-right, cond-true, cond-false, by-test, holds, beq-eq, must-holds, must-fails}
+use Rattle.grammar.specs.Table.{rowOf, atRow, sameNames, rowAgrees, agrees, tableWalk, standing}
+use Rattle.text.proofs.Places.{each-at, place-name, place-most}
+use Rattle.text.proofs.Tests.{and-left, and-right, cond-true, cond-false, by-test, holds, beq-eq, must-holds, must-fails}
 use Rattle.grammar.proofs.Walks.{right-walk, goes-through-iff, stops-first, may-iff, one-place, stopped-or-begun, never-both, through-one}
 use Rattle.grammar.proofs.Once.{has-among, once-by-test, may-has}
-use Rattle.grammar.proofs.Rows.{names-same, each-at, row-name, row-none, own-row}
+use Rattle.grammar.proofs.Rows.{names-same, row-none}
 
 -- two rules that let one walk go through let every walk go on
 both-hold : {S : Type 0} (a b : Bool) (i : ℕ) (s : S) (w v : Walked S) → must a (stopped i) (must b (stopped i) w) ≡ through s
@@ -40,15 +42,11 @@ module _ (names : List (List ℕ)) (bit : ℕ → ℕ → Bool) where
       ∙ table-on (rowOf names k) s (suc i) ks ls (sym (step-on r s i k ks ks e) ∙ e)
       ∙ ap (λ (n : ℕ). tableWalk names bit s n ls) (suc-add i (length ks) ∙ sym (add-suc i (length ks)))
 
-  -- the row of a kind is one of the table's, and so is the row to which a walk goes through
-  row-within : (k : List ℕ) (q : ℕ) → rowOf names k ≡ q → q ≤ length names
-  row-within k zero e = omega arith
-  row-within k (suc j) e = row-name names k j e .0
-
+  -- the row to which a walk goes through is one of the table's
   within-from : (ks : List (List ℕ)) (r s i : ℕ) → r ≤ length names → tableWalk names bit r i ks ≡ through s → s ≤ length names
   within-from [] r s i h e = subst (λ (q : ℕ). q ≤ length names) (through-one e) h
   within-from (k ∷ ks) r s i h e =
-      within-from ks (rowOf names k) s (suc i) (row-within k (rowOf names k) refl) (sym (step-on r s i k ks ks e) ∙ e)
+      within-from ks (rowOf names k) s (suc i) (place-most k names) (sym (step-on r s i k ks ks e) ∙ e)
 
   pub table-within : (ks : List (List ℕ)) (r : ℕ) → tableWalk names bit 0 0 ks ≡ through r → r ≤ length names
   table-within ks r e = within-from ks 0 r 0 (omega arith) e
@@ -57,16 +55,6 @@ module _ (names : List (List ℕ)) (bit : ℕ → ℕ → Bool) where
 goes-standing : (names : List (List ℕ)) (w : Walked ℕ) → Goes w ↔ Goes (standing names w)
 goes-standing names (stopped i) = (λ t. t, λ t. t)
 goes-standing names (through r) = (λ t. tt, λ t. tt)
-
--- the row of a standing
-rowAt : List (List ℕ) → At → ℕ
-rowAt names start = 0
-rowAt names (last k) = rowOf names k
-
-row-at : (names : List (List ℕ)) → T (distinct names) → (r : ℕ) → r ≤ length names → rowAt names (atRow names r) ≡ r
-unfolding rowAt
-row-at names d zero h = refl
-row-at names d (suc j) h = own-row names j d h
 
 -- a number test says that the numbers are equal
 eqb-iff : (m n : ℕ) → (m ≡ n) ↔ T (eqb m n)
@@ -93,7 +81,7 @@ module _ (names : List (List ℕ)) (bit : ℕ → ℕ → Bool) (g : Sets) (ok :
   pub table-names : names ≡ kinds g
   table-names = names-same names (kinds g) (and-left (sameNames names (kinds g)) (distinct names) two-agree)
 
-  pub table-distinct : T (distinct names)
+  table-distinct : T (distinct names)
   table-distinct = and-right (sameNames names (kinds g)) (distinct names) two-agree
 
   -- each kind stands once
@@ -103,12 +91,12 @@ module _ (names : List (List ℕ)) (bit : ℕ → ℕ → Bool) (g : Sets) (ok :
   -- each row agrees
   row-agrees : (r : ℕ) → r ≤ length names → T (rowAgrees names bit g r (atRow names r))
   row-agrees zero h = and-right (sameNames names (kinds g) && distinct names) (rowAgrees names bit g 0 start) three-agree
-  row-agrees (suc j) h = each-at (λ r k. rowAgrees names bit g r (last k)) names rows-agree j h
+  row-agrees (suc j) h = each-at (λ r k. rowAgrees names bit g r (last k)) [] 1 names rows-agree j (suc j) h (omega arith)
 
   bit-may : (r q : ℕ) → r ≤ length names → q < length names → bit r (suc q) ≡ may g (atRow names r) (getD names q [])
   bit-may r q h l =
-      beq-eq _ _ (each-at (λ q k. Bool·beq (bit r q) (may g (atRow names r) k)) names
-      (and-left (each (λ q k. Bool·beq (bit r q) (may g (atRow names r) k)) 1 names) _ (row-agrees r h)) q l)
+      beq-eq _ _ (each-at (λ q k. Bool·beq (bit r q) (may g (atRow names r) k)) [] 1 names
+      (and-left (each (λ q k. Bool·beq (bit r q) (may g (atRow names r) k)) 1 names) _ (row-agrees r h)) q (suc q) l (omega arith))
 
   last-ends : (r : ℕ) → r ≤ length names → eqb r (length names) ≡ ends g (atRow names r)
   last-ends r h =
@@ -129,8 +117,8 @@ module _ (names : List (List ℕ)) (bit : ℕ → ℕ → Bool) (g : Sets) (ok :
       ≡ standing names (must (not (eqb q 0)) (stopped i) (must (bit r q) (stopped i) (tableWalk names bit q (suc i) ks)))
   same-step k ks later r i h zero e = cond-false (may g (atRow names r) k) _ _ (table-foreign k e (atRow names r))
   same-step k ks later r i h (suc j) e =
-      let l : j < length names = row-name names k j e .0 in
-      let n : getD names j [] ≡ k = row-name names k j e .1 in
+      let l : j < length names = place-name k names j e .0 in
+      let n : getD names j [] ≡ k = place-name k names j e .1 in
       let b : bit r (suc j) ≡ may g (atRow names r) k = bit-may r j h l ∙ ap (λ (x : List ℕ). may g (atRow names r) x) n in
       rw (eqb·suc-zero j, b)
       (by-test (may g (atRow names r) k)
@@ -168,23 +156,9 @@ module _ (names : List (List ℕ)) (bit : ℕ → ℕ → Bool) (g : Sets) (ok :
   pub table-stops-iff : (ks : List (List ℕ)) (i : ℕ) → (tableWalk names bit 0 0 ks ≡ stopped i) ↔ StoppedRight g ks i
   table-stops-iff ks i = (λ e. table-stops-first ks i e, λ s. stops-there ks i (tableWalk names bit 0 0 ks) refl s)
 
-  -- it goes through to a row exactly when the grammar's walk goes through to the row's standing
+  -- where it goes through to a row, the grammar's walk goes through to the row's standing
   to-standing : (ks : List (List ℕ)) (r : ℕ) → tableWalk names bit 0 0 ks ≡ through r → walk g start 0 ks ≡ through (atRow names r)
   to-standing ks r e = table-walk ks ∙ ap (λ (w : Walked ℕ). standing names w) e
-
-  to-row : (ks : List (List ℕ)) (r : ℕ) → r ≤ length names → (w : Walked ℕ) → tableWalk names bit 0 0 ks ≡ w
-      → standing names w ≡ through (atRow names r) → w ≡ through r
-  to-row ks r h (stopped j) e s = absurd (never-both s)
-  to-row ks r h (through q) e s =
-      ap (λ (n : ℕ). through n)
-      (sym (row-at names table-distinct q (table-within names bit ks q e))
-      ∙ ap (λ (at : At). rowAt names at) (through-one s)
-      ∙ row-at names table-distinct r h)
-
-  pub table-through-iff : (ks : List (List ℕ)) (r : ℕ) → r ≤ length names
-      → (tableWalk names bit 0 0 ks ≡ through r) ↔ (walk g start 0 ks ≡ through (atRow names r))
-  table-through-iff ks r h =
-      (λ e. to-standing ks r e, λ e. to-row ks r h (tableWalk names bit 0 0 ks) refl (sym (table-walk ks) ∙ e))
 
   -- the last row is reached exactly when the list stands under the grammar
   pub table-through : (ks : List (List ℕ)) (r : ℕ) → tableWalk names bit 0 0 ks ≡ through r → ThroughRight g ks (eqb r (length names))
@@ -202,13 +176,7 @@ module _ (names : List (List ℕ)) (bit : ℕ → ℕ → Bool) (g : Sets) (ok :
       subst (λ (b : Bool). T b ↔ Completes g (ks ++ (getD names q [] ∷ []))) (sym (bit-may r q (table-within names bit ks r e) h))
       (may-iff g table-once ks (atRow names r) (to-standing ks r e) (getD names q []))
 
-  -- the same of a kind by its row, and no completion exists with a foreign one
-  pub table-next-iff : (ks : List (List ℕ)) (r : ℕ) → tableWalk names bit 0 0 ks ≡ through r → (k : List ℕ) (q : ℕ) → rowOf names k ≡ suc q
-      → T (bit r (suc q)) ↔ Completes g (ks ++ (k ∷ []))
-  table-next-iff ks r e k q h =
-      subst (λ (x : List ℕ). T (bit r (suc q)) ↔ Completes g (ks ++ (x ∷ []))) (row-name names k q h .1)
-      (table-may-iff ks r e q (row-name names k q h .0))
-
+  -- no completion exists with a foreign kind
   pub table-foreign-stops : (ks : List (List ℕ)) (r : ℕ) → tableWalk names bit 0 0 ks ≡ through r → (k : List ℕ) → rowOf names k ≡ 0
       → Completes g (ks ++ (k ∷ [])) → ⊥
   table-foreign-stops ks r e k h c =

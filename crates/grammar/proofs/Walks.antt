@@ -12,7 +12,7 @@ use lib.Seq.{append-snoc, take-at, take-take}
 use Rattle.grammar.specs.Sets.{Sets, Under}
 use Rattle.grammar.specs.Right.{Completes, StoppedRight, ThroughRight}
 use Rattle.grammar.specs.Walk.{after, Once, At, start, last, toRead, may, ends, Walked, stopped, through, walk, Goes, Ended, RightWalk}
-use Rattle.grammar.proofs.Tests.{cond-true, cond-false, by-test}
+use Rattle.text.proofs.Tests.{cond-true, cond-false, by-test}
 use Rattle.grammar.proofs.Runs.{Run, run-one, one-run, nulls-yes, nulls-of, some-run}
 use Rattle.grammar.proofs.Left.{Good, good, whole-fits, firsts-has, run-sound, run-begins}
 

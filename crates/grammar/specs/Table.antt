@@ -1,22 +1,18 @@
 -- A follow table by row numbers, when it agrees with a grammar, and the walk by it. Row 0 is the start, row i + 1 the i-th kind's. Assumes nothing.
 use Prim.Native.Nat.{ℕ, zero, suc}
-use mathlib.Core.Bool.{Bool, true, false, cond, Bool·beq, not, _&&_}
+use mathlib.Core.Bool.{Bool, true, false, Bool·beq, not, _&&_}
 use mathlib.Core.List.{List, [], _∷_}
 use lib.Dec.{eqb}
 use lib.ListN.{length, getD}
 use Rattle.text.specs.Order.{sameBytes}
+use Rattle.text.specs.Places.{each, placeOf}
 use Rattle.text.specs.Rules.{must}
 use Rattle.grammar.specs.Sets.{Sets}
 use Rattle.grammar.specs.Walk.{kinds, distinct, At, start, last, may, ends, Walked, stopped, through}
 
--- the row of a kind among names whose first has row i; 0 where it is none of them
-abbrev pub rowFrom : ℕ → List (List ℕ) → List ℕ → ℕ
-rowFrom i [] k = 0
-rowFrom i (x ∷ xs) k = cond (sameBytes x k) i (rowFrom (suc i) xs k)
-
 -- the row of a kind, 0 where it is foreign
 abbrev pub rowOf : List (List ℕ) → List ℕ → ℕ
-rowOf names k = rowFrom 1 names k
+rowOf names k = placeOf k 1 names
 
 -- where a walk stands at a row
 abbrev pub atRow : List (List ℕ) → ℕ → At
@@ -29,11 +25,6 @@ sameNames [] [] = true
 sameNames [] (y ∷ ys) = false
 sameNames (x ∷ xs) [] = false
 sameNames (x ∷ xs) (y ∷ ys) = sameBytes x y && sameNames xs ys
-
--- each name passes a test with its row, the first having row i
-abbrev pub each : (ℕ → List ℕ → Bool) → ℕ → List (List ℕ) → Bool
-each test i [] = true
-each test i (x ∷ xs) = test i x && each test (suc i) xs
 
 -- a row allows exactly the kinds that may come next, and is the last row exactly if the list may end there
 abbrev pub rowAgrees : List (List ℕ) → (ℕ → ℕ → Bool) → Sets → ℕ → At → Bool

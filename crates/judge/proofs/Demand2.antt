@@ -1,17 +1,19 @@
 -- Demand 2: a file is accepted with n records exactly where it is right for the flow and has n records. Assumes nothing.
-use Prim.Native.Nat.{ℕ, zero, suc, _+_, _-_, _≤_}
+use Prim.Native.Nat.{ℕ, _+_, _-_, _≤_}
 use mathlib.Core.Path.{_≡_, refl, sym, ap, subst, _∙_}
 use mathlib.Core.Bool.{Bool, true, false, cond, not, _&&_, _||_, false≢true}
 use mathlib.Core.Logic.{_↔_}
-use mathlib.Core.List.{List, [], _∷_, _++_, map, append-assoc}
+use mathlib.Core.List.{List, [], _∷_, _++_, append-assoc}
 use native.Mathlib.Omega.{arith}
-use lib.Dec.{eqb, leb}
-use lib.ListN.{length, getD, drop, length-append}
-use borrow.Author.Tests.{leb-true, eqb-true, le-leb, eq-eqb}
+use lib.Dec.{T, eqb}
+use lib.ListN.{length, drop, length-append}
+use borrow.Author.Tests.{eqb-true, eq-eqb}
+use Rattle.text.specs.Characters.{all}
 use Rattle.text.specs.Rules.{must}
-use Rattle.record.specs.Records.{records, fields, field, barred}
+use Rattle.text.proofs.Places.{all-at}
+use Rattle.text.proofs.Tests.{is-true}
+use Rattle.record.specs.Records.{records, fields, field}
 use Rattle.checksum.specs.Checksum.{checksum}
-use Rattle.record.proofs.Bars.{barred-bar}
 use Rattle.number.specs.Numbers.{spelled}
 use Rattle.number.proofs.Digits.{and-left, and-right}
 use Rattle.layout.specs.Layout.{Rule, Layout, row, mayFollow, isFooter}
@@ -21,30 +23,19 @@ use Rattle.flow.specs.Flows.{flows, flowAt, flowNamed, flowNumber, held, p0012}
 use Rattle.flow.proofs.Agree.{tables-agree, some-kind}
 use Rattle.fault.specs.Fields.{fieldsFault}
 use Rattle.fault.specs.Record.{kindOf, footerFault}
-use Rattle.judge.specs.Record.{lastKind, sumOf}
-use Rattle.judge.specs.File.{bar, checkedFrom, endsInFeed, ended, finish, judgedBy, verdict, judged, accepted, paper}
+use Rattle.judge.specs.Record.{sumOf}
+use Rattle.judge.specs.File.{bar, endsInFeed, judgedBy, verdict, judged, accepted, paper}
 use Rattle.judge.specs.Right.{kindIn, publishedAs, publishedFor, Typed, RightFor, Right}
 use Rattle.fault.specs.declared.Check.the-variants.{Fine, Fault}
 use Rattle.judge.specs.declared.Verdict.{Verdict}
 use Rattle.judge.specs.declared.Verdict.the-variants.{Accepted, Refused}
-use Rattle.judge.proofs.Files.{last-snoc}
 use Rattle.judge.proofs.RightEach.{Each}
-use Rattle.judge.proofs.RightFields.{must-fine, no-refusal, FineRecord, each-fine, fine-each, is-typed, typed-is}
+use Rattle.judge.proofs.RightFields.{FineRecord, fine-each, is-typed, typed-is}
+use Rattle.judge.proofs.Passes.{Passes, passes, passed, must-accepted, bars, all-fine, last-spells}
 use Rattle.judge.proofs.RightKinds.{Placed, placed-under, under-placed, under-footer, footer-ends}
-use Rattle.judge.proofs.RightKeys.{keysFit, published-fits, keyFits, rules-are, ascends-from, key-fine}
+use Rattle.judge.proofs.RightKeys.{published-fits, keyFits, rules-are, ascends-from, key-fine}
 
--- an acceptance passes each test
-must-accepted : (b : Bool) (x r f n : ℕ) (v : Verdict) → must b (Refused x r f) v ≡ Accepted n → (b ≡ true) × (v ≡ Accepted n)
-must-accepted true x r f n v e = (refl, e)
-must-accepted false x r f n v e = absurd (no-refusal e)
-
-finish-accepted : (c v : Verdict) (n : ℕ) → finish c v ≡ Accepted n → ((m : ℕ) × (c ≡ Accepted m)) × (v ≡ Accepted n)
-finish-accepted (Accepted m) v n e = ((m, refl), e)
-finish-accepted (Refused x r f) v n e = absurd (no-refusal e)
-
-same-count : {m n : ℕ} → Accepted m ≡ Accepted n → n ≡ m
-same-count e = cc
-
+-- a line feed that is needed is there
 needed : (a b : Bool) → (not a || b) ≡ true → a ≡ true → b ≡ true
 needed true b e h = e
 needed false b e h = absurd (false≢true h)
@@ -53,24 +44,14 @@ not-needed : (a b : Bool) → (a ≡ true → b ≡ true) → (not a || b) ≡ t
 not-needed true b h = h refl
 not-needed false b h = refl
 
--- bars turned to bars
-bars : (rs : List (List ℕ)) → map (barred bar) rs ≡ rs
-bars [] = refl
-bars (r ∷ rs) = λ i. barred-bar r i ∷ bars rs i
-
-foot-tests : (b c d : Bool) → b ≡ true → cond b (must c (Fault 12 2) (must d (Fault 13 3) Fine)) Fine ≡ Fine → (c ≡ true) × (d ≡ true)
-foot-tests true c d h e =
-    let p = must-fine c 12 2 (must d (Fault 13 3) Fine) e in
-    (p .0, must-fine d 13 3 Fine (p .1) .0)
-foot-tests false c d h e = absurd (false≢true h)
-
+-- a footer that tells the records before it has no fault
 foot-right : (b c d : Bool) → (b ≡ true → (c ≡ true) × (d ≡ true)) → cond b (must c (Fault 12 2) (must d (Fault 13 3) Fine)) Fine ≡ Fine
 foot-right true c d h = rw (h refl .0, h refl .1)
 foot-right false c d h = refl
 
 -- for a flow whose layout agrees with its grammar, with a last kind that nothing follows, and keys that are never empty
 module _ (fl : Flow) (ok : agrees (names (fl .kinds)) (mayFollow (layoutFor fl)) (fl .grammar) ≡ true) (some : 1 ≤ length (names (fl .kinds)))
-    (closed : row (layoutFor fl) (length (names (fl .kinds))) .next ≡ 0) (fit : keysFit (fl .kinds) ≡ true) (f : List ℕ) (n : ℕ) where
+    (closed : row (layoutFor fl) (length (names (fl .kinds))) .next ≡ 0) (fit : all keyFits (fl .kinds) ≡ true) (f : List ℕ) (n : ℕ) where
   abbrev l : Layout
   l = layoutFor fl
 
@@ -84,10 +65,9 @@ module _ (fl : Flow) (ok : agrees (names (fl .kinds)) (mayFollow (layoutFor fl))
   regroup b q mid r a = append-assoc b (q ∷ mid) (r ∷ a)
 
   -- what is accepted is right
-  module _ (m : ℕ) (small : leb (length f) 1048576 ≡ true) (through : checkedFrom bar l [] rs ≡ Accepted m)
-      (foot : isFooter l (lastKind bar l rs) ≡ true) (feed : (not (fl .feed) || endsInFeed f) ≡ true) (count : n ≡ length rs) where
+  module _ (p : Passes (layoutFor fl) f n) where
     fine : Each (FineRecord l) [] rs
-    fine = each-fine l [] rs m through
+    fine = all-fine l f n p
 
     between : (b : List (List ℕ)) (q : List ℕ) (mid : List (List ℕ)) (r : List ℕ) (a : List (List ℕ)) → rs ≡ b ++ q ∷ (mid ++ r ∷ a)
         → Each (λ _ x. kindOf bar l x ≡ 0 → ⊥) [] mid
@@ -96,35 +76,29 @@ module _ (fl : Flow) (ok : agrees (names (fl .kinds)) (mayFollow (layoutFor fl))
         e ∙ ap (λ (t : List (List ℕ)). b ++ q ∷ (t ++ r ∷ a)) s ∙ ap (λ (t : List (List ℕ)). b ++ q ∷ t) (append-assoc c (x ∷ d) (r ∷ a)) ∙ sym (regroup b q c x (d ++ r ∷ a)) in
         fine (b ++ q ∷ c) x (d ++ r ∷ a) whole .known
 
-    closing : (b : List (List ℕ)) (r : List ℕ) → rs ≡ b ++ r ∷ [] → (spelled (length b + 1) (field bar 2 r) ≡ true) × (spelled (sumOf bar b) (field bar 3 r) ≡ true)
-    unfolding footerFault
-    closing b r e =
-        foot-tests (isFooter l (kindOf bar l r)) (spelled (length b + 1) (field bar 2 r)) (spelled (sumOf bar b) (field bar 3 r))
-        (ap (isFooter l) (sym (ap (lastKind bar l) e ∙ last-snoc bar l b r)) ∙ foot) (fine b r [] e .closes)
-
     has-type : (b : List (List ℕ)) (r : List ℕ) (a : List (List ℕ)) → rs ≡ b ++ r ∷ a → Typed (publishedFor fl r .fields) r
     has-type b r a e =
-        let p = fine b r a e in
-        is-typed (publishedFor fl r .fields) r (p .counted ∙ ap (λ (rules : List Rule). length rules + 1) (rules-are fl r (p .known)))
-        (sym (ap (λ (rules : List Rule). fieldsFault rules (drop 1 (fields bar r)) 2) (rules-are fl r (p .known))) ∙ p .typed)
+        let x = fine b r a e in
+        is-typed (publishedFor fl r .fields) r (x .counted ∙ ap (λ (rules : List Rule). length rules + 1) (rules-are fl r (x .known)))
+        (sym (ap (λ (rules : List Rule). fieldsFault rules (drop 1 (fields bar r)) 2) (rules-are fl r (x .known))) ∙ x .typed)
 
     accepted-right : RightFor fl f n
     accepted-right =
         record {
-          limit = leb-true _ _ small;
+          limit = p .limit;
           recordLimit = λ b r a e. fine b r a e .short;
-          grammar = placed-under fl ok some rs (λ b r a e. record { known = fine b r a e .known; follows = fine b r a e .follows }) foot;
+          grammar = placed-under fl ok some rs (λ b r a e. record { known = fine b r a e .known; follows = fine b r a e .follows }) (p .closes);
           typed = has-type;
           keys = λ b q mid r a e s x y.
-              let p = fine (b ++ q ∷ mid) r a (e ∙ sym (regroup b q mid r a)) in
+              let x′ = fine (b ++ q ∷ mid) r a (e ∙ sym (regroup b q mid r a)) in
               let t : Typed (publishedFor fl r .fields) q = subst (λ (name : List ℕ). Typed (publishedAs (fl .kinds) name .fields) q) s (has-type b q (mid ++ r ∷ a) e) in
-              ascends-from fl r (p .known) (key-fits r) b q mid s t (between b q mid r a e) x y (p .ascends);
+              ascends-from fl r (x′ .known) (key-fits r) b q mid s t (between b q mid r a e) x y (x′ .ascends);
           count = λ b r e.
               let z : length b + 1 ≡ length rs = sym (ap length e ∙ length-append b (r ∷ [])) in
-              ap (λ (c : ℕ). spelled c (field bar 2 r)) (sym z) ∙ closing b r e .0;
-          checksum = λ b r e. ap (λ (t : List (List ℕ)). spelled (checksum t) (field bar 3 r)) (sym (bars b)) ∙ closing b r e .1;
-          lastFeed = λ h. eqb-true _ _ (needed (fl .feed) (endsInFeed f) feed h);
-          counted = count;
+              ap (λ (c : ℕ). spelled c (field bar 2 r)) (sym z) ∙ last-spells l f n p b r e .0;
+          checksum = λ b r e. last-spells l f n p b r e .1;
+          lastFeed = λ h. eqb-true _ _ (needed (fl .feed) (endsInFeed f) (p .feed) h);
+          counted = sym (p .count);
         }
 
   -- what is right is accepted
@@ -158,46 +132,28 @@ module _ (fl : Flow) (ok : agrees (names (fl .kinds)) (mayFollow (layoutFor fl))
           closes = closed-right b r a e;
         }
 
-    right-accepted : judgedBy l f ≡ Accepted n
-    unfolding judgedBy ended
-    right-accepted =
-        rw (
-          le-leb _ _ (p .limit),
-          fine-each l [] rs right-fine,
-          under-footer fl ok some rs (p .grammar),
-          not-needed (fl .feed) (endsInFeed f) (λ h. eq-eqb _ _ (p .lastFeed h)),
-        ) (ap Accepted (sym (p .counted)))
-
-  accepted-for : judgedBy l f ≡ Accepted n → RightFor fl f n
-  unfolding judgedBy ended
-  accepted-for e =
-      let a = must-accepted (leb (length f) 1048576) 2 0 0 n _ e in
-      let b = finish-accepted (checkedFrom bar l [] rs) (ended l (length rs) (lastKind bar l rs) (endsInFeed f)) n (a .1) in
-      let c = must-accepted (isFooter l (lastKind bar l rs)) 14 (length rs + 1) 0 n (must (not (fl .feed) || endsInFeed f) (Refused 15 (length rs) 0) (Accepted (length rs))) (b .1) in
-      let d = must-accepted (not (fl .feed) || endsInFeed f) 15 (length rs) 0 n (Accepted (length rs)) (c .1) in
-      accepted-right (b .0 .0) (a .0) (b .0 .1) (c .0) (d .0) (same-count (d .1))
+    right-passes : Passes l f n
+    right-passes =
+        record {
+          limit = p .limit;
+          last = length rs;
+          checked = fine-each l [] rs right-fine;
+          closes = under-footer fl ok some rs (p .grammar);
+          feed = not-needed (fl .feed) (endsInFeed f) (λ h. eq-eqb _ _ (p .lastFeed h));
+          count = sym (p .counted);
+        }
 
   -- a file is accepted for the flow exactly where it is right for it
   pub right-for : (judgedBy (layoutFor fl) f ≡ Accepted n) ↔ RightFor fl f n
-  right-for = (accepted-for, right-accepted)
+  right-for = (λ e. accepted-right (passes (layoutFor fl) f n e), λ p. passed (layoutFor fl) f n (right-passes p))
 
 -- each flow that we hold is such a flow, by one computed test over all of them
 flowFits : Flow → Bool
-flowFits fl = keysFit (fl .kinds) && eqb (row (layoutFor fl) (length (names (fl .kinds))) .next) 0
+flowFits fl = all keyFits (fl .kinds) && eqb (row (layoutFor fl) (length (names (fl .kinds))) .next) 0
 
-allFit : List Flow → Bool
-allFit [] = true
-allFit (fl ∷ fls) = flowFits fl && allFit fls
-
-fits-at : (fls : List Flow) → allFit fls ≡ true → flowFits p0012 ≡ true → (i : ℕ) → flowFits (getD fls i p0012) ≡ true
-unfolding allFit
-fits-at [] e h i = h
-fits-at (fl ∷ fls) e h zero = and-left (flowFits fl) (allFit fls) e
-fits-at (fl ∷ fls) e h (suc i) = fits-at fls (and-right (flowFits fl) (allFit fls) e) h i
-
-flow-fits : (n : ℕ) → flowFits (flowAt n) ≡ true
-unfolding allFit flowFits
-flow-fits n = fits-at flows refl refl (n - 1)
+flow-fits : (n : ℕ) → T (flowFits (flowAt n))
+unfolding flowFits
+flow-fits n = all-at flowFits p0012 flows (tt {0}) (tt {0}) (n - 1)
 
 -- two answers that say the same in document 01's terms are the same answer, so only one meets the promise of judge
 pub one-reply : (v w : Verdict) → paper v ≡ paper w → v ≡ w
@@ -212,10 +168,10 @@ module _ (name f : List ℕ) (n : ℕ) where
   unfolding flowFits
   named =
       let fl = flowNamed name in
-      let e = flow-fits (flowNumber name) in
+      let e = is-true _ (flow-fits (flowNumber name)) in
       right-for fl (tables-agree (flowNumber name)) (some-kind (flowNumber name))
-      (eqb-true _ _ (and-right (keysFit (fl .kinds)) (eqb (row (layoutFor fl) (length (names (fl .kinds))) .next) 0) e))
-      (and-left (keysFit (fl .kinds)) (eqb (row (layoutFor fl) (length (names (fl .kinds))) .next) 0) e) f n
+      (eqb-true _ _ (and-right (all keyFits (fl .kinds)) (eqb (row (layoutFor fl) (length (names (fl .kinds))) .next) 0) e))
+      (and-left (all keyFits (fl .kinds)) (eqb (row (layoutFor fl) (length (names (fl .kinds))) .next) 0) e) f n
 
   to-right : judged name f ≡ accepted n → Right name f n
   unfolding judged verdict

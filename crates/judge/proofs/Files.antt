@@ -1,16 +1,16 @@
 -- What the loop over a file keeps: the state is the summary of the records passed, and the slots say their last keys. Assumes nothing.
-use Prim.Native.Nat.{ℕ, zero, suc, _+_, _-_, _*_, _≤_, _<_, _^_, zero-le, suc-le-suc}
+use Prim.Native.Nat.{ℕ, zero, suc, _+_, _-_, _*_, _≤_, _<_, _^_, zero-le}
 use mathlib.Core.Path.{_≡_, refl, sym, ap, _∙_}
-use mathlib.Core.Bool.{Bool, true, false, cond}
 use mathlib.Core.List.{List, [], _∷_, _++_, foldl-append, map, append-nil}
 use native.Mathlib.Omega.{arith}
-use lib.Dec.{eqb, leb}
+use lib.Dec.{leb}
 use borrow.Author.Tests.{lt-leb, le-leb}
-use lib.ListN.{length, getD, take, drop, length-append, replicate}
+use lib.ListN.{length, getD, take, drop, length-append, length-take, replicate}
 use lib.Seq.{drop-drop, take-take, take-nil, append-snoc}
 use Rattle.text.specs.Rules.{must}
-use Rattle.record.specs.Records.{records, onto, barred, IsPart}
+use Rattle.record.specs.Records.{records, barred, IsPart}
 use Rattle.checksum.specs.Checksum.{addRecord, checksum}
+use Rattle.record.proofs.Cutting.{records-le}
 use Rattle.checksum.proofs.Sums.{checksum-snoc}
 use Rattle.layout.specs.Layout.{Layout, row}
 use Rattle.fault.specs.Record.{kindOf, keyIn, kindFault}
@@ -162,9 +162,7 @@ drop-take (suc a) (suc n) (x ∷ s) =
     rw q (drop-take a n s)
 
 pub take-short : (n : ℕ) (s : List ℕ) → length (take n s) ≤ n
-take-short zero s = zero-le
-take-short (suc n) [] = zero-le
-take-short (suc n) (x ∷ s) = suc-le-suc (take-short n s)
+take-short n s = omega (arith, length-take n s)
 
 -- a part of a record is a part of the file
 pub inner : (f : List ℕ) (start end from to : ℕ) (p : List ℕ) → IsPart (take (end - start) (drop start f)) from to p
@@ -175,18 +173,6 @@ inner f start end from to p h =
     rw (← drop-drop from start f)
     (sym (take-take (to - from) (end - start - from) (drop from (drop start f)) w)
     ∙ ap (take (to - from)) (sym (drop-take from (end - start) (drop start f))) ∙ h .is)
-
-few-go : (b : ℕ) (ps : List (List ℕ)) (n : ℕ) (t : Bool) → length ps ≤ n → length (cond t ([] ∷ ps) (onto b ps)) ≤ suc n
-unfolding onto
-few-go b ps n true h = suc-le-suc h
-few-go b [] n false h = suc-le-suc zero-le
-few-go b (p ∷ ps) n false h = omega arith
-
--- there are no more records than bytes
-pub few-records : (s : List ℕ) → length (records s) ≤ length s
-unfolding records
-few-records [] = zero-le
-few-records (b ∷ s) = few-go b (records s) (length s) (eqb b 0x0A) (few-records s)
 
 -- the whole file, by what its records come to
 module _ (l : Layout) (f : List ℕ) where
@@ -208,4 +194,4 @@ module _ (l : Layout) (f : List ℕ) where
   -- its records are counted within 64 bits
   pub count-fits : (st : State) → length f ≤ 1048576 → st ≡ summary bar l (records f) → st .count + 1 < 2 ^ 64
   unfolding summary
-  count-fits st h q = omega (arith, ap (λ (s : State). s .count) q, few-records f)
+  count-fits st h q = omega (arith, ap (λ (s : State). s .count) q, records-le f)

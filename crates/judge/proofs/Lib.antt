@@ -3,6 +3,7 @@ pub mod Slots
 pub mod Files
 pub mod RightEach
 pub mod RightFields
+pub mod Passes
 pub mod RightKinds
 pub mod RightKeys
 pub mod Demand2

@@ -42,9 +42,6 @@ pub also-fine : (a b : Check) → also a b ≡ Fine → (a ≡ Fine) × (b ≡ F
 also-fine Fine b e = (refl, e)
 also-fine (Fault n f) b e = absurd (no-fault e)
 
-pub fine-also : (a b : Check) → a ≡ Fine → b ≡ Fine → also a b ≡ Fine
-fine-also a b p q = rw (p, q)
-
 -- a record without a fault, where these stand before it
 pub record FineRecord (l : Layout) (before : List (List ℕ)) (r : List ℕ) : Type 0 where
   pub short : length r ≤ 512

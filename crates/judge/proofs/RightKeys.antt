@@ -7,6 +7,7 @@ use native.Mathlib.Omega.{arith}
 use lib.Dec.{eqb, leb}
 use lib.ListN.{length, getD}
 use borrow.Author.Tests.{eqb-true, eqb-false, leb-true, not-true, eq-eqb, ne-eqb}
+use Rattle.text.specs.Characters.{all}
 use Rattle.text.specs.Order.{sameBytes}
 use Rattle.text.specs.declared.Order.{Order}
 use Rattle.text.specs.declared.Order.the-variants.{Below, Equal, Above}
@@ -27,7 +28,7 @@ use Rattle.judge.specs.Right.{kindIn, NoneOfKind, publishedAs, published
 use Rattle.fault.specs.declared.Check.the-variants.{Fine}
 use Rattle.judge.proofs.RightEach.{Each, each-first, each-rest}
 use Rattle.judge.proofs.RightFields.{must-fine, fine-must, filled-right}
-use Rattle.judge.proofs.RightKinds.{place-is, kind-row, known-row, one-name, one-kind}
+use Rattle.judge.proofs.RightKinds.{kind-row, known-row, one-name, one-kind}
 
 -- where the last key of a kind comes from: from before these records, from nowhere since the set began anew, or from one of them
 data Latest (kind head : List ℕ) (key : List ℕ → List ℕ) (rs : List (List ℕ)) (old now : List ℕ) : Type 0 where
@@ -60,7 +61,7 @@ module _ (fl : Flow) (r : List ℕ) (known : kindOf bar (layoutFor fl) r ≡ 0 �
   type-is = ap (λ (x : KindRow). getD (x .rules) (x .key - 2) null .type) row-is
 
   head-is : row l k .head ≡ rowOf (names (fl .kinds)) (p .within)
-  head-is = ap (λ (x : KindRow). x .head) row-is ∙ place-is (p .within) 1 (names (fl .kinds))
+  head-is = ap (λ (x : KindRow). x .head) row-is
 
   -- numbers of kinds and their names tell the same
   not-own : (x : List ℕ) → (kindIn x ≡ kindIn r → ⊥) → kindOf bar l x ≡ k → ⊥
@@ -137,18 +138,14 @@ keyFits p =
     || (leb 2 (p .key) && (leb (p .key - 1) (length (p .fields)) && (not (mayBeEmpty (getD (p .fields) (p .key - 2) null .mark))
     && (not (isNull (keyTypeFor p)) && not (sameBytes (p .name) (p .within))))))
 
-abbrev pub keysFit : List PublishedKind → Bool
-keysFit [] = true
-keysFit (p ∷ ps) = keyFits p && keysFit ps
-
 fit-go : (b : Bool) (p q : PublishedKind) → keyFits p ≡ true → keyFits q ≡ true → keyFits (cond b p q) ≡ true
 fit-go true p q h k = h
 fit-go false p q h k = k
 
-pub published-fits : (ps : List PublishedKind) (name : List ℕ) → keysFit ps ≡ true → keyFits (publishedAs ps name) ≡ true
+pub published-fits : (ps : List PublishedKind) (name : List ℕ) → all keyFits ps ≡ true → keyFits (publishedAs ps name) ≡ true
 published-fits [] name e = refl
 published-fits (p ∷ ps) name e =
-    fit-go (sameBytes (p .name) name) p (publishedAs ps name) (and-left (keyFits p) (keysFit ps) e) (published-fits ps name (and-right (keyFits p) (keysFit ps) e))
+    fit-go (sameBytes (p .name) name) p (publishedAs ps name) (and-left (keyFits p) (all keyFits ps) e) (published-fits ps name (and-right (keyFits p) (all keyFits ps) e))
 
 -- what a kind that has a key must be
 pub record Keyed (p : PublishedKind) : Type 0 where

@@ -10,18 +10,19 @@ use lib.ListN.{length, getD}
 use lib.Seq.{append-snoc}
 use borrow.Author.Tests.{eqb-true, eqb-false, not-true, le-leb, eq-eqb, ne-eqb}
 use Rattle.text.specs.Order.{sameBytes}
+use Rattle.text.specs.Places.{placeOf}
 use Rattle.text.specs.Rules.{must}
 use Rattle.text.specs.Characters.{from-to}
+use Rattle.text.proofs.Places.{place-name}
 use Rattle.number.proofs.Digits.{and-right}
 use Rattle.layout.specs.Layout.{KindRow, Layout, row, blank, find, kindNamed, among, mayFollow, isFooter}
 use Rattle.grammar.specs.Sets.{Sets, Under}
 use Rattle.grammar.specs.Walk.{Walked, stopped, through, Goes}
-use Rattle.grammar.specs.Table.{rowFrom, rowOf, agrees, tableWalk}
-use Rattle.grammar.proofs.Rows.{row-name}
+use Rattle.grammar.specs.Table.{rowOf, agrees, tableWalk}
 use Rattle.grammar.proofs.Walks.{never-both, under-completes}
 use Rattle.grammar.proofs.TableWalks.{table-goes-iff, table-complete-iff}
-use Rattle.flow.proofs.Agree.{rows-are}
-use Rattle.flow.specs.Publication.{Flow, PublishedKind, names, placeOf, rowFor, layoutFor}
+use Rattle.flow.proofs.Agree.{names-are, rows-are}
+use Rattle.flow.specs.Publication.{Flow, PublishedKind, names, rowFor, layoutFor}
 use Rattle.fault.specs.Record.{kindOf}
 use Rattle.judge.specs.Record.{lastKind}
 use Rattle.judge.specs.File.{bar}
@@ -29,19 +30,9 @@ use Rattle.judge.specs.Right.{kindIn, publishedAs}
 use Rattle.judge.proofs.Files.{last-snoc}
 use Rattle.judge.proofs.RightEach.{Each, each-none, each-cons, each-first, each-rest}
 
--- the place of a name among names, however it is sought
-pub place-is : (n : List ℕ) (i : ℕ) (ns : List (List ℕ)) → placeOf n i ns ≡ rowFrom i ns n
-place-is n i [] = refl
-place-is n i (m ∷ ns) = ap (λ (x : ℕ). cond (sameBytes m n) i x) (place-is n (suc i) ns)
-
 module _ (g : Sets) (ns : List (List ℕ)) (name : List ℕ) where
   abbrev R : PublishedKind → KindRow
   R = rowFor g ns
-
-  find-is : (i : ℕ) (ks : List PublishedKind) → find name i (map R ks) ≡ rowFrom i (names ks) name
-  unfolding find
-  find-is i [] = refl
-  find-is i (k ∷ ks) = ap (λ (x : ℕ). cond (sameBytes (k .name) name) i x) (find-is (suc i) ks)
 
   -- the row that is found is that of the published kind
   abbrev Found : ℕ → ℕ → List KindRow → PublishedKind → Type 0
@@ -63,7 +54,8 @@ module _ (g : Sets) (ns : List (List ℕ)) (name : List ℕ) where
 -- a kind's number and its row
 module _ (fl : Flow) where
   pub kind-row : (name : List ℕ) → kindNamed (layoutFor fl) name ≡ rowOf (names (fl .kinds)) name
-  kind-row name = find-is (fl .grammar) (names (fl .kinds)) name 1 (fl .kinds)
+  unfolding find
+  kind-row name = ap (placeOf name 1) (names-are fl)
 
   known-go : (name : List ℕ) (n : ℕ) → kindNamed (layoutFor fl) name ≡ n → (n ≡ 0 → ⊥)
       → row (layoutFor fl) n ≡ rowFor (fl .grammar) (names (fl .kinds)) (publishedAs (fl .kinds) name)
@@ -81,7 +73,7 @@ module _ (fl : Flow) where
   -- two names with one number that is not 0 are the same
   one-go : (a b : List ℕ) (n : ℕ) → rowOf (names (fl .kinds)) a ≡ n → rowOf (names (fl .kinds)) b ≡ n → (n ≡ 0 → ⊥) → a ≡ b
   one-go a b zero p q h = absurd (h refl)
-  one-go a b (suc j) p q h = sym (row-name (names (fl .kinds)) a j p .1) ∙ row-name (names (fl .kinds)) b j q .1
+  one-go a b (suc j) p q h = sym (place-name a (names (fl .kinds)) j p .1) ∙ place-name b (names (fl .kinds)) j q .1
 
   pub one-name : (a b : List ℕ) → kindNamed (layoutFor fl) a ≡ rowOf (names (fl .kinds)) b → (kindNamed (layoutFor fl) a ≡ 0 → ⊥) → a ≡ b
   one-name a b e h = one-go a b (kindNamed (layoutFor fl) a) (sym (kind-row a)) (sym e) h

@@ -7,70 +7,35 @@ use native.Mathlib.Nat.{add-zero}
 use native.Mathlib.Numerals.{add-one}
 use native.Mathlib.Omega.{arith}
 use lib.Dec.{T}
-use lib.ListN.{length, getD, drop, length-drop}
+use lib.ListN.{length, getD, drop, length-drop, length-map, List·getD-map}
 use lib.Seq.{getD-drop}
 use Rattle.text.specs.Order.{sameBytes}
-use Rattle.text.proofs.Lists.{same→≡, same-refl}
-use Rattle.layout.specs.Layout.{KindRow, Layout, row, blank, find, kindNamed}
+use Rattle.text.proofs.Lists.{same→≡, same-refl, three-of}
+use Rattle.text.proofs.Places.{place-name, place-most}
+use Rattle.layout.specs.Layout.{KindRow, Layout, row, blank, rowNames, find, kindNamed}
 use Rattle.layout.specs.Numbers.{word, cell, nameOf, rowOf, rowCount, layoutOf}
 use Rattle.layout.proofs.Rows.{rows-length, row-of, rows-drop, rows-done}
 
--- a name that is found stands among the rows, and there
-module _ (name : List ℕ) where
-  bound-go : (i m n : ℕ) (b : Bool) → 1 ≤ i → m < suc i + n → cond b i m < i + suc n
-  bound-go i m n true h k = omega arith
-  bound-go i m n false h k = omega arith
-
-  find-bound : (i : ℕ) (rs : List KindRow) → 1 ≤ i → find name i rs < i + length rs
-  unfolding find
-  find-bound i [] h = omega arith
-  find-bound i (r ∷ rs) h = bound-go i (find name (suc i) rs) (length rs) (sameBytes (r .name) name) h (find-bound (suc i) rs (omega arith))
-
-  least-go : (i m : ℕ) (b : Bool) → ((m ≡ 0 → ⊥) → suc i ≤ m) → (cond b i m ≡ 0 → ⊥) → i ≤ cond b i m
-  least-go i m true later h = omega arith
-  least-go i m false later h = omega (arith, later h)
-
-  find-least : (i : ℕ) (rs : List KindRow) → (find name i rs ≡ 0 → ⊥) → i ≤ find name i rs
-  unfolding find
-  find-least i [] h = absurd (h refl)
-  find-least i (r ∷ rs) h = least-go i (find name (suc i) rs) (sameBytes (r .name) name) (find-least (suc i) rs) h
-
-  there-go : (i : ℕ) (r : KindRow) (rs : List KindRow) (b : Bool) → sameBytes (r .name) name ≡ b
-      → ((find name (suc i) rs ≡ 0 → ⊥) → getD rs (find name (suc i) rs - suc i) blank .name ≡ name)
-      → (cond b i (find name (suc i) rs) ≡ 0 → ⊥) → getD (r ∷ rs) (cond b i (find name (suc i) rs) - i) blank .name ≡ name
-  there-go i r rs true e later h =
-      let z : i - i ≡ 0 = omega arith in
-      rw z (same→≡ (r .name) name (subst T (sym e) tt))
-  there-go i r rs false e later h =
-      let l = find-least (suc i) rs h in
-      let z : find name (suc i) rs - i ≡ suc (find name (suc i) rs - suc i) = omega arith in
-      rw z (later h)
-
-  find-there : (i : ℕ) (rs : List KindRow) → (find name i rs ≡ 0 → ⊥) → getD rs (find name i rs - i) blank .name ≡ name
-  unfolding find
-  find-there i [] h = absurd (h refl)
-  find-there i (r ∷ rs) h = there-go i r rs (sameBytes (r .name) name) refl (find-there (suc i) rs) h
-
 -- the kind of a name in any layout
-module _ (l : Layout) (name : List ℕ) (found : kindNamed l name ≡ 0 → ⊥) where
-  pub found-row : row l (kindNamed l name) .name ≡ name
-  found-row =
-      let e = find-least name 1 (drop 1 (l .rows)) found in
-      let z : 1 + (kindNamed l name - 1) ≡ kindNamed l name = omega arith in
-      sym (ap (λ (r : KindRow). r .name) (getD-drop 1 (l .rows) (kindNamed l name - 1) blank ∙ ap (row l) z))
-      ∙ find-there name 1 (drop 1 (l .rows)) found
+module _ (l : Layout) (name : List ℕ) where
+  kind-most-of : kindNamed l name ≤ length (l .rows) - 1
+  unfolding find
+  kind-most-of = omega (arith, place-most name (rowNames (drop 1 (l .rows))), length-map (drop 1 (l .rows)) (λ (r : KindRow). r .name), length-drop 1 (l .rows))
 
-  pub found-within : kindNamed l name < length (l .rows)
-  found-within =
-      let e = find-least name 1 (drop 1 (l .rows)) found in
-      omega (arith, find-bound name 1 (drop 1 (l .rows)) (omega arith), length-drop 1 (l .rows))
+  found-go : (k : ℕ) → kindNamed l name ≡ k → (k ≡ 0 → ⊥) → row l k .name ≡ name
+  unfolding find
+  found-go zero e h = absurd (h refl)
+  found-go (suc j) e h =
+      let z : 1 + j ≡ suc j = omega arith in
+      sym (List·getD-map (λ (r : KindRow). r .name) (drop 1 (l .rows)) j blank ∙ ap (λ (r : KindRow). r .name) (getD-drop 1 (l .rows) j blank ∙ ap (row l) z))
+      ∙ place-name name (rowNames (drop 1 (l .rows))) j e .1
+
+  pub found-row : (kindNamed l name ≡ 0 → ⊥) → row l (kindNamed l name) .name ≡ name
+  found-row found = found-go (kindNamed l name) refl found
 
 -- there are at most 32 kinds
 pub kind-most : (t bytes name : List ℕ) → kindNamed (layoutOf t bytes) name ≤ 32
-kind-most t bytes name =
-    let rows = layoutOf t bytes .rows in
-    let b : kindNamed (layoutOf t bytes) name < 1 + length (drop 1 rows) = find-bound name 1 (drop 1 rows) (omega arith) in
-    omega (arith, length-drop 1 rows, rows-length t bytes)
+kind-most t bytes name = omega (arith, kind-most-of (layoutOf t bytes) name, rows-length t bytes)
 
 -- three bytes, and the number that they are
 pub record Spells (name : List ℕ) (n : ℕ) : Type 0 where
@@ -80,13 +45,6 @@ pub record Spells (name : List ℕ) (n : ℕ) : Type 0 where
   pub third : getD name 2 0 < 256
   pub is : n ≡ getD name 0 0 * 65536 + getD name 1 0 * 256 + getD name 2 0
 
-three-bytes : (s : List ℕ) → length s ≡ 3 → s ≡ getD s 0 0 ∷ getD s 1 0 ∷ getD s 2 0 ∷ []
-three-bytes [] h = absurd (omega arith)
-three-bytes (a ∷ []) h = absurd (omega arith)
-three-bytes (a ∷ b ∷ []) h = absurd (omega arith)
-three-bytes (a ∷ b ∷ c ∷ []) h = refl
-three-bytes (a ∷ b ∷ c ∷ d ∷ s) h = absurd (omega arith)
-
 -- a number's name is these bytes exactly where its lowest 24 bits are the number that they are
 module _ (name : List ℕ) (n : ℕ) (s : Spells name n) (w : ℕ) where
   pub number→name : w % 16777216 ≡ n → nameOf w ≡ name
@@ -94,7 +52,7 @@ module _ (name : List ℕ) (n : ℕ) (s : Spells name n) (w : ℕ) where
       let a : w / 65536 % 256 ≡ getD name 0 0 = omega arith in
       let b : w / 256 % 256 ≡ getD name 1 0 = omega arith in
       let c : w % 256 ≡ getD name 2 0 = omega arith in
-      (λ i. a i ∷ b i ∷ c i ∷ []) ∙ sym (three-bytes name (s .three))
+      (λ i. a i ∷ b i ∷ c i ∷ []) ∙ sym (three-of 0 name (s .three))
 
   pub name→number : nameOf w ≡ name → w % 16777216 ≡ n
   name→number e =
@@ -142,7 +100,7 @@ no-kind : (t bytes name : List ℕ) → (length name ≡ 3 → ⊥) → (kindNam
 unfolding rowOf
 no-kind t bytes name h found =
     let l = layoutOf t bytes in
-    let k : kindNamed l name < rowCount t = omega (arith, found-within l name found, rows-length t bytes) in
+    let k : kindNamed l name < rowCount t = omega (arith, kind-most-of l name, rows-length t bytes) in
     h (ap length (sym (found-row l name found) ∙ ap (λ (r : KindRow). r .name) (row-of t bytes (kindNamed l name) k)))
 
 pub find-long : (t bytes name : List ℕ) → (length name ≡ 3 → ⊥) → kindNamed (layoutOf t bytes) name ≡ 0

@@ -17,9 +17,6 @@ module _ (t bytes : List ℕ) where
   unfolding layoutOf
   rows-length = each-length (rowOf t bytes) 0 (rowCount t)
 
-  pub rows-most : length (layoutOf t bytes .rows) ≤ 33
-  rows-most = omega (arith, rows-length)
-
   -- the last row is the footer
   pub footer-is : (k : ℕ) → 1 ≤ k → eqb (rowCount t - 1) k ≡ isFooter (layoutOf t bytes) k
   footer-is k h = rw (le-leb 1 k h, rows-length)

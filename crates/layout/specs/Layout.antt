@@ -1,11 +1,11 @@
 -- What a flow asks of its records: kinds, followers, fields, keys, and the last line feed. No flow is named here. Assumes nothing.
-use Prim.Native.Nat.{ℕ, suc, _-_, _^_, _/_, _%_}
-use mathlib.Core.Bool.{Bool, cond, _&&_}
-use mathlib.Core.List.{List, [], _∷_}
+use Prim.Native.Nat.{ℕ, _-_, _^_, _/_, _%_}
+use mathlib.Core.Bool.{Bool, _&&_}
+use mathlib.Core.List.{List, [], map}
 use lib.Dec.{eqb, leb}
 use lib.ListN.{length, getD, drop}
 use Rattle.text.specs.Characters.{from-to}
-use Rattle.text.specs.Order.{sameBytes}
+use Rattle.text.specs.Places.{placeOf}
 use Rattle.field.specs.Judge.{Marked}
 use Rattle.field.specs.declared.FieldType.{FieldType}
 
@@ -44,10 +44,13 @@ among k set = from-to 1 32 k && eqb (set / 2 ^ (k - 1) % 2) 1
 abbrev pub mayFollow : Layout → ℕ → ℕ → Bool
 mayFollow l last k = among k (row l last .next)
 
+-- the names of some rows
+abbrev pub rowNames : List KindRow → List (List ℕ)
+rowNames rs = map (λ (r : KindRow). r .name) rs
+
 -- the first of some rows with this name, the rows counted from i; 0 where there is none
 unfoldable pub find : List ℕ → ℕ → List KindRow → ℕ
-find name i [] = 0
-find name i (r ∷ rs) = cond (sameBytes (r .name) name) i (find name (suc i) rs)
+find name i rs = placeOf name i (rowNames rs)
 
 -- the kind of this name; 0 where the flow has none
 abbrev pub kindNamed : Layout → List ℕ → ℕ

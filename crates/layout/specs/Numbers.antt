@@ -8,9 +8,9 @@ use mathlib.Core.Bool.{cond}
 use mathlib.Core.List.{List, [], _∷_}
 use lib.Dec.{eqb, leb}
 use lib.ListN.{getD, length, take, drop}
-use Rattle.field.specs.Judge.{Marked, bare, opt, fixed}
+use Rattle.field.specs.Judge.{Marked}
+use Rattle.field.specs.Codes.{typeCoded, markCoded}
 use Rattle.field.specs.declared.FieldType.{FieldType}
-use Rattle.field.specs.declared.FieldType.the-variants as types
 use Rattle.layout.specs.Layout.{Rule, KindRow, Layout, row}
 
 -- f at i, and at each of the n - 1 numbers after it
@@ -24,23 +24,15 @@ word t i = getD t i 0
 
 -- the type's code is the lowest octal digit, the width stands above it (to 1023), the places of a dec above that
 unfoldable pub typeOf : ℕ → FieldType
-typeOf w =
-    cond (eqb (w % 8) 0) (types.Text (w / 8 % 1024))
-    (cond (eqb (w % 8) 1) (types.Int (min (w / 8 % 1024) 18))
-    (cond (eqb (w % 8) 2) (types.Dec (min (w / 8 % 1024) 18) (w / 8192 % 32))
-    (cond (eqb (w % 8) 3) types.Date
-    (cond (eqb (w % 8) 4) types.Datetime
-    (cond (eqb (w % 8) 5) types.Bol
-    (cond (eqb (w % 8) 6) types.Period
-    types.Null))))))
+typeOf w = typeCoded (w % 8) (w / 8 % 1024) (min (w / 8 % 1024) 18) (w / 8192 % 32)
 
 -- the bytes of the fixed value of the rule at p: its length stands above the mark, its place among the bytes in the number after
 unfoldable pub fixedOf : List ℕ → List ℕ → ℕ → List ℕ
 fixedOf t bytes p = take (word t (p + 1) / 4 % 1024) (drop (word t (p + 2)) bytes)
 
--- the mark's lowest two bits: 1 is opt, 2 a fixed value, any other nothing
+-- the mark's code is the lowest two bits
 unfoldable pub markOf : ℕ → List ℕ → Marked
-markOf w value = cond (eqb (w % 4) 1) opt (cond (eqb (w % 4) 2) (fixed value) bare)
+markOf w value = markCoded (w % 4) value
 
 -- the rule at place p
 unfoldable pub ruleOf : List ℕ → List ℕ → ℕ → Rule

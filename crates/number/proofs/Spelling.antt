@@ -8,7 +8,7 @@ use native.Mathlib.Omega.{arith}
 use lib.Dec.{eqb, leb, ltb, lit<}
 use lib.IntN.{ℤ, pos, negsuc}
 use lib.ListN.{length, getD, length-append, List·getD-append}
-use borrow.Author.Tests.{eq-eqb, ne-eqb, le-leb, eqb-true, leb-true, lt-ltb, ltb-true, ltb-false}
+use borrow.Author.Tests.{eq-eqb, ne-eqb, le-leb, eqb-true, lt-ltb, ltb-true, ltb-false}
 use Rattle.text.specs.Characters.{all, isDigit}
 use Rattle.text.specs.Order.{numberOrder, textOrder, else}
 use Rattle.text.specs.declared.Order.{Order}
@@ -66,10 +66,6 @@ one-spelling a b p q e =
 
 -- what it is to spell n
 module _ (n : ℕ) (s : List ℕ) (e : spelled n s ≡ true) where
-  pub spelled-short : length s ≤ 10
-  unfolding spelled
-  spelled-short = leb-true (length s) 10 (and-left (leb (length s) 10) (plain s && eqb (number s) n) e)
-
   pub spelled-plain : plain s ≡ true
   unfolding spelled
   spelled-plain = and-left (plain s) (eqb (number s) n) (and-right (leb (length s) 10) (plain s && eqb (number s) n) e)

@@ -4,16 +4,13 @@ use Prim.Native.Nat.{ℕ}
 use mathlib.Core.Path.{_≡_}
 use mathlib.Core.Bool.{Bool, cond}
 use mathlib.Core.List.{List, [], _∷_}
-use lib.Dec.{eqb, leb}
+use lib.Dec.{leb}
 use lib.IntN.{ℤ, pos, negsuc, natAbs}
 use lib.ListN.{length}
 use Rattle.text.specs.Rules.{must}
 use Rattle.field.specs.Judge as fields
-use Rattle.field.specs.declared.FieldType.{FieldType}
-use Rattle.field.specs.declared.FieldType.the-variants as types
-use Rattle.flow.specs.Step.{StepRight}
-use Rattle.flow.specs.declared.StepAnswer.{StepAnswer}
-use Rattle.flow.specs.declared.StepAnswer.the-variants as steps
+use Rattle.field.specs.Codes.{typeCoded, markCoded}
+use Rattle.flow.specs.Step as steps
 use Rattle.judge.specs.File as files
 use Rattle.value.specs.Value as values
 use Rattle.sheet.specs.Sheets.{made, sheetOf}
@@ -83,38 +80,22 @@ fieldCells (fields.number z) = numberCells z
 fieldCells (fields.truth b) = truthCells b
 fieldCells (fields.text s) = textCells 0 (length s)
 
--- the codes of types, in the order of document 01's table, with the widths that some take
-unfoldable pub typeCoded : ℕ → ℕ → ℕ → FieldType
-typeCoded code p q =
-    cond (eqb code 0) (types.Text p)
-    (cond (eqb code 1) (types.Int p)
-    (cond (eqb code 2) (types.Dec p q)
-    (cond (eqb code 3) types.Date
-    (cond (eqb code 4) types.Datetime
-    (cond (eqb code 5) types.Bol
-    (cond (eqb code 6) types.Period
-    types.Null))))))
-
--- the codes of marks: 0 is none, 1 opt, 2 the fixed bytes
-unfoldable pub markCoded : ℕ → List ℕ → fields.Marked
-markCoded code bytes = cond (eqb code 1) fields.opt (cond (eqb code 2) (fields.fixed bytes) fields.bare)
-
 -- judging one field's bytes by codes: 18 for a code that is none
 unfoldable pub fieldAsked : ℕ → ℕ → ℕ → ℕ → List ℕ → List ℕ → fields.Reply
 fieldAsked type p q mark bytes s =
     must (leb type 7) (fields.refused 18 0 0)
     (must (leb mark 2) (fields.refused 18 0 0)
-    (fields.fieldJudged (typeCoded type p q) (markCoded mark bytes) s))
+    (fields.fieldJudged (typeCoded type p p q) (markCoded mark bytes) s))
 
 -- the step: cell 1 is the place where the list stopped, 0 where it went through; then cell 2 is how many kinds may follow, and cell 3
 -- says if the list is complete
-abbrev pub stepCells : StepAnswer → List ℕ
-stepCells (steps.Refused number) = refusalCells number 0 0
-stepCells (steps.Stopped place) = 0 ∷ place ∷ 0 ∷ 0 ∷ []
-stepCells (steps.Through count complete) = 0 ∷ 0 ∷ count ∷ flagOf complete ∷ []
+abbrev pub stepCells : steps.Reply → List ℕ
+stepCells (steps.refused number r f) = refusalCells number r f
+stepCells (steps.stopped place) = 0 ∷ place ∷ 0 ∷ 0 ∷ []
+stepCells (steps.through count complete) = 0 ∷ 0 ∷ count ∷ flagOf complete ∷ []
 
 -- the cells are those of the step's right answer, and the lent names of kinds are right
 pub record Stepped (name kinds cells old new : List ℕ) : Type 0 where
-  pub step : StepAnswer
-  pub right : StepRight name kinds step old new
+  pub step : steps.Reply
+  pub right : steps.ReplyRight name kinds step old new
   pub says : cells ≡ stepCells step

@@ -12,10 +12,12 @@ ghost use Prim.Native.Nat.{ℕ};
 ghost use lib.ListN.{length};
 ghost use Rattle.checksum.specs.Checksum.{checksumOf};
 ghost use Rattle.field.specs.Judge.{marked, paper as fieldPaper};
+ghost use Rattle.field.specs.Codes.{typeCoded, markCoded};
+ghost use Rattle.flow.specs.Step.{paper as stepPaper};
 ghost use Rattle.judge.specs.File.{judged, paper as judgePaper};
 ghost use Rattle.sheet.specs.Write.{paper as transferPaper};
 ghost use Rattle.value.specs.Value.{valued, paper as valuePaper};
-ghost use Rattle.screen.specs.Numbers.{refusalCells, judgeCells, transferCells, WroteCells, ReadCells, flagOf, numberCells, valueCells, fieldCells, typeCoded, markCoded, fieldAsked, stepCells, Stepped};
+ghost use Rattle.screen.specs.Numbers.{refusalCells, judgeCells, transferCells, WroteCells, ReadCells, flagOf, numberCells, valueCells, fieldCells, fieldAsked, stepCells, Stepped};
 
 // A refusal's number, record and field.
 fn refusal_cells(number: usize, r: usize, f: usize) -> [u64; 4]
@@ -120,7 +122,7 @@ pub extern "C" fn screen_value(flow: &[u8], file: &[u8], n: usize, k: usize, ans
 
 // The type of a code, with its widths.
 fn type_coded(code: u32, p: usize, q: usize) -> FieldType
-    ensures { λ r. ⌜ r ≡ typeCoded code p q ⌝ }
+    ensures { λ r. ⌜ r ≡ typeCoded code p p q ⌝ }
 {
     match code {
         0 => FieldType::Text(p),
@@ -195,7 +197,7 @@ pub extern "C" fn screen_checksum(bytes: &[u8]) -> u32
 
 // What the step answers.
 fn step_cells(a: StepAnswer) -> [u64; 4]
-    ensures { λ r. ⌜ r ≡ stepCells a ⌝ }
+    ensures { λ r. ⌜ r ≡ stepCells (stepPaper a) ⌝ }
 {
     match a {
         StepAnswer::Refused(number) => [number as u64, 0, 0, 0],

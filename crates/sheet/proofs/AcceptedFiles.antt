@@ -1,76 +1,32 @@
 -- What an accepted file is: lines without a tab, and a footer that is the made one. Assumes nothing.
 use Prim.Native.Nat.{ℕ, _+_, _-_, _≤_, _<_}
 use mathlib.Core.Path.{_≡_, refl, sym, ap, _∙_}
-use mathlib.Core.Bool.{Bool, true, false, cond, not, _||_, false≢true, or-true}
-use mathlib.Core.List.{List, [], _∷_, _++_, map}
+use mathlib.Core.Bool.{Bool, true, false, cond, not, false≢true, or-true}
+use mathlib.Core.List.{List, [], _∷_, _++_}
 use native.Mathlib.Omega.{arith}
 use lib.Dec.{eqb, leb}
 use lib.ListN.{length, getD, length-append}
-use borrow.Author.Tests.{eqb-true, eqb-false, leb-true, le-leb}
-use Rattle.text.specs.Rules.{must}
-use Rattle.record.specs.Records.{onto, records, fields, field, barred, joined, holds, someHolds}
+use borrow.Author.Tests.{eqb-true, eqb-false}
+use Rattle.text.proofs.Lists.{three-of}
+use Rattle.record.specs.Records.{onto, records, fields, field, joined, holds, someHolds}
 use Rattle.checksum.specs.Checksum.{checksum}
 use Rattle.record.proofs.Cutting.{neither, records-joined, records-free, joined-ended, joined-not-ended}
 use Rattle.record.proofs.Runs.{fields-some}
 use Rattle.record.proofs.Fields.{field-number}
-use Rattle.record.proofs.Bars.{barred-bar}
-use Rattle.number.specs.Numbers.{spelled, decimal}
+use Rattle.number.specs.Numbers.{decimal}
 use Rattle.number.proofs.Digits.{and-right}
 use Rattle.number.proofs.Spelling.{spelled-is}
 use Rattle.layout.specs.Layout.{Rule, Layout, row, isFooter}
 use Rattle.flow.specs.Letters.{ZPT}
-use Rattle.fault.specs.Record.{kindOf, footerFault}
-use Rattle.judge.specs.Record.{lastKind, sumOf}
-use Rattle.judge.specs.File.{bar, checkedFrom, endsInFeed, ended, finish, judgedBy}
-use Rattle.fault.specs.declared.Check.the-variants.{Fine, Fault}
-use Rattle.judge.specs.declared.Verdict.{Verdict}
-use Rattle.judge.specs.declared.Verdict.the-variants.{Accepted, Refused}
-use Rattle.judge.proofs.Files.{last-snoc}
-use Rattle.judge.proofs.RightFields.{FineRecord, must-fine, no-refusal, each-fine}
+use Rattle.fault.specs.Record.{kindOf}
+use Rattle.judge.specs.Record.{lastKind}
+use Rattle.judge.specs.File.{bar, checkedFrom, endsInFeed}
+use Rattle.judge.proofs.RightFields.{FineRecord}
+use Rattle.judge.proofs.Passes.{Passes, all-fine, last-closes, last-spells}
 use Rattle.sheet.specs.Sheets.{tab, footer, butLast, withFeed}
 use Rattle.sheet.proofs.Footers.{ProperFooter, lastRow}
 use Rattle.sheet.proofs.MadeFiles.{ends-so}
 use Rattle.sheet.proofs.TabFree.{kind-name, each-free}
-
--- an acceptance passes each test
-pub must-accepted : (b : Bool) (x r f n : ℕ) (v : Verdict) → must b (Refused x r f) v ≡ Accepted n → (b ≡ true) × (v ≡ Accepted n)
-must-accepted true x r f n v e = (refl, e)
-must-accepted false x r f n v e = absurd (no-refusal e)
-
-finish-accepted : (c v : Verdict) (n : ℕ) → finish c v ≡ Accepted n → ((m : ℕ) × (c ≡ Accepted m)) × (v ≡ Accepted n)
-finish-accepted (Accepted m) v n e = ((m, refl), e)
-finish-accepted (Refused x r f) v n e = absurd (no-refusal e)
-
-same-count : {m n : ℕ} → Accepted m ≡ Accepted n → m ≡ n
-same-count e = cc
-
--- what a layout's judge has found of a file that it accepts
-pub record Passes (l : Layout) (f : List ℕ) (n : ℕ) : Type 0 where
-  pub limit : length f ≤ 1048576
-  pub last : ℕ
-  pub checked : checkedFrom bar l [] (records f) ≡ Accepted last
-  pub closes : isFooter l (lastKind bar l (records f)) ≡ true
-  pub feed : (not (l .feed) || endsInFeed f) ≡ true
-  pub count : length (records f) ≡ n
-
-module _ (l : Layout) (f : List ℕ) (n : ℕ) where
-  abbrev end : Verdict
-  end = ended l (length (records f)) (lastKind bar l (records f)) (endsInFeed f)
-
-  pub passes : judgedBy l f ≡ Accepted n → Passes l f n
-  unfolding judgedBy ended
-  passes e =
-      let rs = records f in
-      let a = must-accepted (leb (length f) 1048576) 2 0 0 n (finish (checkedFrom bar l [] rs) end) e in
-      let b = finish-accepted (checkedFrom bar l [] rs) end n (a .1) in
-      let c = must-accepted (isFooter l (lastKind bar l rs)) 14 (length rs + 1) 0 n
-      (must (not (l .feed) || endsInFeed f) (Refused 15 (length rs) 0) (Accepted (length rs))) (b .1) in
-      let d = must-accepted (not (l .feed) || endsInFeed f) 15 (length rs) 0 n (Accepted (length rs)) (c .1) in
-      record { limit = leb-true _ _ (a .0); last = b .0 .0; checked = b .0 .1; closes = c .0; feed = d .0; count = same-count (d .1) }
-
-  pub accepted : Passes l f n → judgedBy l f ≡ Accepted n
-  unfolding judgedBy ended
-  accepted p = rw (le-leb (length f) 1048576 (p .limit), p .checked, p .closes, p .feed) (ap Accepted (p .count))
 
 -- the fields of a record, with their separators again
 parted : ℕ → List (List ℕ) → List ℕ
@@ -91,52 +47,32 @@ unfolding parted fields
 parted-fields sep [] = refl
 parted-fields sep (b ∷ s) = parted-go sep b (fields sep s) s (eqb b sep) refl (fields-some sep s) (parted-fields sep s)
 
-three : (ps : List (List ℕ)) → length ps ≡ 3 → ps ≡ getD ps 0 [] ∷ getD ps 1 [] ∷ getD ps 2 [] ∷ []
-three [] h = absurd (omega arith)
-three (a ∷ []) h = absurd (omega arith)
-three (a ∷ b ∷ []) h = absurd (omega arith)
-three (a ∷ b ∷ c ∷ []) h = refl
-three (a ∷ b ∷ c ∷ d ∷ ps) h = absurd (omega arith)
+-- the last record of an accepted file is the footer that is made for the records before it
+module _ (l : Layout) (proper : ProperFooter l) (f : List ℕ) (n : ℕ) (p : Passes l f n) (before : List (List ℕ)) (r : List ℕ)
+    (whole : records f ≡ before ++ r ∷ []) where
+  fine : FineRecord l before r
+  fine = all-fine l f n p before r [] whole
 
-bars-again : (rs : List (List ℕ)) → map (barred bar) rs ≡ rs
-bars-again [] = refl
-bars-again (r ∷ rs) = λ i. barred-bar r i ∷ bars-again rs i
-
-spells : (b c d : Bool) → b ≡ true → cond b (must c (Fault 12 2) (must d (Fault 13 3) Fine)) Fine ≡ Fine → (c ≡ true) × (d ≡ true)
-spells true c d h e =
-    let p = must-fine c 12 2 (must d (Fault 13 3) Fine) e in
-    (p .0, must-fine d 13 3 Fine (p .1) .0)
-spells false c d h e = absurd (false≢true h)
-
--- a record of the last kind that passes is the footer that is made for the records before it
-module _ (l : Layout) (proper : ProperFooter l) (before : List (List ℕ)) (r : List ℕ) (p : FineRecord l before r)
-    (closes : isFooter l (kindOf bar l r) ≡ true) where
   kind-is : kindOf bar l r ≡ lastRow l
-  kind-is = sym (eqb-true (lastRow l) (kindOf bar l r) (and-right (leb 1 (kindOf bar l r)) (eqb (lastRow l) (kindOf bar l r)) closes))
-
-  tests : (spelled (length before + 1) (field bar 2 r) ≡ true) × (spelled (sumOf bar before) (field bar 3 r) ≡ true)
-  unfolding footerFault
-  tests =
-      spells (isFooter l (kindOf bar l r)) (spelled (length before + 1) (field bar 2 r)) (spelled (sumOf bar before) (field bar 3 r)) closes (p .closes)
+  kind-is =
+      sym (eqb-true (lastRow l) (kindOf bar l r) (and-right (leb 1 (kindOf bar l r)) (eqb (lastRow l) (kindOf bar l r)) (last-closes l f n p before r whole)))
 
   one : getD (fields bar r) 0 [] ≡ ZPT
-  one = sym (field-number bar 0 r) ∙ sym (kind-name l proper before r p) ∙ ap (λ (k : ℕ). row l k .name) kind-is ∙ proper .name
+  one = sym (field-number bar 0 r) ∙ sym (kind-name l proper before r fine) ∙ ap (λ (k : ℕ). row l k .name) kind-is ∙ proper .name
 
   two : getD (fields bar r) 1 [] ≡ decimal (length before + 1)
-  two = sym (field-number bar 1 r) ∙ spelled-is (length before + 1) (field bar 2 r) (tests .0)
+  two = sym (field-number bar 1 r) ∙ spelled-is (length before + 1) (field bar 2 r) (last-spells l f n p before r whole .0)
 
   sum : getD (fields bar r) 2 [] ≡ decimal (checksum before)
-  sum =
-      sym (field-number bar 2 r) ∙ spelled-is (sumOf bar before) (field bar 3 r) (tests .1)
-      ∙ ap (λ (rs : List (List ℕ)). decimal (checksum rs)) (bars-again before)
+  sum = sym (field-number bar 2 r) ∙ spelled-is (checksum before) (field bar 3 r) (last-spells l f n p before r whole .1)
 
   many : length (fields bar r) ≡ 3
-  many = p .counted ∙ ap (λ (k : ℕ). length (row l k .rules) + 1) kind-is ∙ ap (λ (rules : List Rule). length rules + 1) (proper .rules)
+  many = fine .counted ∙ ap (λ (k : ℕ). length (row l k .rules) + 1) kind-is ∙ ap (λ (rules : List Rule). length rules + 1) (proper .rules)
 
   pub footer-made : r ≡ footer (length before + 1) (checksum before)
   unfolding parted footer
   footer-made =
-      sym (parted-fields bar r) ∙ ap (parted bar) (three (fields bar r) many)
+      sym (parted-fields bar r) ∙ ap (parted bar) (three-of [] (fields bar r) many)
       ∙ (λ i. parted bar (one i ∷ two i ∷ sum i ∷ []))
 
 -- the last of some records, and those before it
@@ -172,14 +108,10 @@ module _ (l : Layout) (proper : ProperFooter l) (f : List ℕ) (n : ℕ) (p : Pa
   split = last-split (records f) (some-record l (records f) (p .closes))
 
   pub lines-no-tab : someHolds tab lines ≡ false
-  lines-no-tab = none-front tab lines (lastOf (records f)) (ap (someHolds tab) (sym split) ∙ each-free l proper [] (records f) (each-fine l [] (records f) (p .last) (p .checked)))
+  lines-no-tab = none-front tab lines (lastOf (records f)) (ap (someHolds tab) (sym split) ∙ each-free l proper [] (records f) (all-fine l f n p))
 
   pub records-split : records f ≡ lines ++ footer (length lines + 1) (checksum lines) ∷ []
-  records-split =
-      split
-      ∙ ap (λ (r : List ℕ). lines ++ r ∷ [])
-      (footer-made l proper lines (lastOf (records f)) (each-fine l [] (records f) (p .last) (p .checked) lines (lastOf (records f)) [] split)
-      (ap (isFooter l) (sym (ap (lastKind bar l) split ∙ last-snoc bar l lines (lastOf (records f)))) ∙ p .closes))
+  records-split = split ∙ ap (λ (r : List ℕ). lines ++ r ∷ []) (footer-made l proper f n p lines (lastOf (records f)) split)
 
 -- a file that is not empty, with its last line feed, is its records joined
 feed-go : (f : List ℕ) (t : Bool) → endsInFeed f ≡ t → 0 < length f → joined (records f) ≡ cond t f (f ++ 0x0A ∷ [])

@@ -21,6 +21,7 @@ use Rattle.flow.specs.Flows.{held, flowNumber, flowNamed}
 use Rattle.judge.specs.File.{bar, endsInFeed, verdict, judgedBy}
 use Rattle.judge.specs.declared.Verdict.{Verdict}
 use Rattle.judge.specs.declared.Verdict.the-variants as verdicts
+use Rattle.judge.proofs.Passes.{Passes, passes, passed, must-accepted}
 use Rattle.sheet.specs.Sheets.{tab, turned, footer, made, butLast, sheetOf, withFeed}
 use Rattle.sheet.specs.Write.{linesEnded, asJudged, fitted, written, paper, output, Wrote}
 use Rattle.sheet.specs.Read.{readTo, Read}
@@ -32,7 +33,7 @@ use Rattle.sheet.proofs.Footers.{properFooter, foot-length}
 use Rattle.sheet.proofs.MadeFiles.{made-length, records-made, sheet-turned, ends-so}
 use Rattle.sheet.proofs.Starts.{butLast-snoc}
 use Rattle.sheet.proofs.Handing.{fits}
-use Rattle.sheet.proofs.AcceptedFiles.{Passes, passes, accepted, must-accepted, none-front, records-split, lines-no-tab, feed-joined, feed-long, feed-passes}
+use Rattle.sheet.proofs.AcceptedFiles.{none-front, records-split, lines-no-tab, feed-joined, feed-long, feed-passes}
 
 -- the writer takes a sheet: the sheet's own rules hold, the judge accepts the made file, and there is room
 pub record Takes (name sheet : List ℕ) (room n b : ℕ) : Type 0 where
@@ -173,7 +174,7 @@ module _ (name f : List ℕ) (n : ℕ) (accepts : verdict name f ≡ verdicts.Ac
 
   still-accepts : verdict name (made (sheetOf f)) ≡ verdicts.Accepted n
   unfolding verdict
-  still-accepts = ap (verdict name) made-is ∙ rw (tests .0) (accepted l (withFeed f) n (feed-passes l f n some (omega arith) right))
+  still-accepts = ap (verdict name) made-is ∙ rw (tests .0) (passed l (withFeed f) n (feed-passes l f n some (omega arith) right))
 
   no-bar : holds bar (sheetOf f) ≡ false
   unfolding sheetOf
@@ -203,7 +204,7 @@ module _ (name f : List ℕ) (n : ℕ) (accepts : verdict name f ≡ verdicts.Ac
       )
 
 -- two answers that say the same are the same, and leave the same bytes
-same-answer : (a b : Transfer) → paper a ≡ paper b → a ≡ b
+pub same-answer : (a b : Transfer) → paper a ≡ paper b → a ≡ b
 same-answer (Done n x) (Done m y) e = cc
 same-answer (Done n x) (Refused m r f) e = let z : _≡_ {A = ℕ} 0 1 = cc in absurd (omega arith)
 same-answer (Refused n q g) (Done m y) e = let z : _≡_ {A = ℕ} 0 1 = cc in absurd (omega arith)

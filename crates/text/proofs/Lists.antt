@@ -5,6 +5,7 @@ use mathlib.Core.List.{List, [], _∷_}
 use Prim.Native.Nat.{ℕ, suc, _+_, _-_, _≤_, _<_}
 use native.Mathlib.Nat.{le-of-eq}
 use native.Mathlib.Numerals.{add-one}
+use native.Mathlib.Omega.{arith}
 use lib.ListN.{length, getD, drop, take, drop-of-length-le, length-drop}
 use lib.Dec.{T, eqb}
 use lib.Seq.{drop-cons, take-all}
@@ -66,3 +67,11 @@ same→≡ (x ∷ xs) (y ∷ ys) t = go (eqb x y) refl (λ u. same→≡ xs ys u
 pub same-refl : (a : List ℕ) → sameBytes a a ≡ true
 same-refl [] = refl
 same-refl (x ∷ xs) = rw (eq-eqb x x refl) (same-refl xs)
+
+-- a list of three is its three elements
+pub three-of {ℓ} : {A : Type ℓ} (d : A) (s : List A) → length s ≡ 3 → s ≡ getD s 0 d ∷ getD s 1 d ∷ getD s 2 d ∷ []
+three-of d [] h = absurd (omega arith)
+three-of d (a ∷ []) h = absurd (omega arith)
+three-of d (a ∷ b ∷ []) h = absurd (omega arith)
+three-of d (a ∷ b ∷ c ∷ []) h = refl
+three-of d (a ∷ b ∷ c ∷ e ∷ s) h = absurd (omega arith)

@@ -17,8 +17,8 @@ abbrev pub one-of : List ℕ → ℕ → Bool
 one-of [] b = false
 one-of (x ∷ xs) b = eqb b x || one-of xs b
 
--- each byte of a list passes a test
-abbrev pub all : (ℕ → Bool) → List ℕ → Bool
+-- each of a list passes a test
+abbrev pub all {ℓ} : {A : Type ℓ} → (A → Bool) → List A → Bool
 all p [] = true
 all p (x ∷ xs) = p x && all p xs
 

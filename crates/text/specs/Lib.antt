@@ -1,3 +1,4 @@
 pub mod Rules
 pub mod Characters
 pub mod Order
+pub mod Places

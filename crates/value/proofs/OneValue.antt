@@ -2,14 +2,15 @@
 use Prim.Native.Nat.{ℕ}
 use mathlib.Core.Path.{_≡_, refl, sym, ap, subst, _∙_}
 use mathlib.Core.List.{List}
-use Rattle.judge.specs.File.{verdict, judged, paper as verdictPaper, Reply as VerdictReply, accepted, refused as refusedFile}
+use Rattle.text.proofs.Inverse.{same-said}
+use Rattle.judge.specs.File.{verdict, judged, paper as verdictPaper}
+use Rattle.judge.proofs.Demand2.{one-reply}
 use Rattle.judge.specs.declared.Verdict.{Verdict}
 use Rattle.judge.specs.declared.Verdict.the-variants as verdicts
 use Rattle.layout.specs.Layout.{Layout}
 use Rattle.flow.specs.Publication.{layoutFor}
 use Rattle.flow.specs.Flows.{flowNamed}
-use Rattle.value.specs.Value.{Reply, refused, empty, number, truth, text, paper, ofAccepted, valueBy, valueIn, valued}
-use Rattle.value.specs.Code.{TextWithin}
+use Rattle.value.specs.Value.{Reply, refused, empty, number, truth, text, paper, TextWithin, ofAccepted, valueBy, valueIn, valued}
 use Rattle.value.specs.declared.Value.{Value}
 use Rattle.value.specs.declared.Value.the-variants.{Refused, Empty, Number, Truth, Text}
 use Rattle.value.proofs.Places.{text-within}
@@ -30,7 +31,7 @@ said-paper f (Truth b) = refl
 said-paper f (Text from to) = refl
 
 pub paper-one : (f : List ℕ) (v w : Value) → paper f v ≡ paper f w → v ≡ w
-paper-one f v w e = sym (said-paper f v) ∙ ap said e ∙ said-paper f w
+paper-one f v w e = same-said (paper f) said (said-paper f) v w e
 
 -- what is promised is the answer of the definition, and no other
 pub promised : (name f : List ℕ) (n k : ℕ) (v : Value) → paper f v ≡ valued name f n k → v ≡ valueIn name f n k
@@ -40,15 +41,6 @@ promised name f n k v e = paper-one f v (valueIn name f n k) e
 pub one-value : (name f : List ℕ) (n k : ℕ) (v w : Value) → paper f v ≡ valued name f n k → paper f w ≡ valued name f n k
     → v ≡ w
 one-value name f n k v w e q = paper-one f v w (e ∙ sym q)
-
--- the same of the reader
-abbrev saidOf : VerdictReply → Verdict
-saidOf (accepted n) = verdicts.Accepted n
-saidOf (refusedFile m r k) = verdicts.Refused m r k
-
-said-verdict : (v : Verdict) → saidOf (verdictPaper v) ≡ v
-said-verdict (verdicts.Accepted n) = refl
-said-verdict (verdicts.Refused m r k) = refl
 
 module _ (name f : List ℕ) (n k : ℕ) where
   -- both promises, of the definition's answer
@@ -63,7 +55,7 @@ module _ (name f : List ℕ) (n k : ℕ) where
   module _ (v : Verdict) (e : verdictPaper v ≡ judged name f) where
     by-verdict : after v ≡ valueIn name f n k
     unfolding judged valueIn
-    by-verdict = ap after (sym (said-verdict v) ∙ ap saidOf e ∙ said-verdict (verdict name f))
+    by-verdict = ap after (one-reply v (verdict name f) e)
 
     pub reader-refused : {m r c : ℕ} → v ≡ verdicts.Refused m r c → Refused m r c ≡ valueIn name f n k
     reader-refused q = ap after (sym q) ∙ by-verdict

@@ -1,7 +1,7 @@
 -- Records and fields stand where their extents say, within the file, and so a text's place holds its bytes. Assumes nothing.
 use Prim.Native.Nat.{ℕ, zero, suc, _+_, _-_, _≤_, _<_}
 use mathlib.Core.Path.{_≡_, refl, sym, ap, subst, _∙_}
-use mathlib.Core.Bool.{Bool, true, false, cond, _&&_, true≢false}
+use mathlib.Core.Bool.{Bool, true, false, cond}
 use mathlib.Core.List.{List, [], _∷_}
 use native.Mathlib.Decide.{decLt}
 use native.Mathlib.Omega.{arith}
@@ -11,6 +11,7 @@ use lib.Seq.{take-length}
 use borrow.Author.Tests.{leb-true}
 use Rattle.text.specs.Rules.{must}
 use Rattle.text.specs.Characters.{from-to}
+use Rattle.number.proofs.Digits.{and-left, and-right}
 use Rattle.record.specs.Records.{records, fields, field, run, extent, IsPart}
 use Rattle.record.proofs.Runs.{run-le, records-first, fields-last, fields-more}
 use Rattle.record.proofs.Cutting.{records-le, part-as, part-within}
@@ -24,8 +25,7 @@ use Rattle.judge.specs.File.{bar, verdict}
 use Rattle.judge.specs.declared.Verdict.{Verdict}
 use Rattle.judge.specs.declared.Verdict.the-variants as verdicts
 use Rattle.judge.proofs.Files.{inner}
-use Rattle.value.specs.Value.{recordAt, isThere, placeOf, textAt, asValue, answerIn, fieldValue, ofAccepted, valueBy, valueIn, paper, text}
-use Rattle.value.specs.Code.{TextWithin}
+use Rattle.value.specs.Value.{recordAt, isThere, placeOf, textAt, asValue, answerIn, fieldValue, ofAccepted, valueBy, valueIn, paper, text, TextWithin}
 use Rattle.value.specs.declared.Value.{Value}
 use Rattle.value.specs.declared.Value.the-variants.{Refused}
 
@@ -96,24 +96,18 @@ field-lies : (sep k : ℕ) (r : List ℕ) → k < length (fields sep r) → Lies
 field-lies sep zero r h = first-field-lies sep r (decLt (run sep r) (length r))
 field-lies sep (suc k) r h = later-field-lies sep k r (field-lies sep k) h (decLt (run sep r) (length r))
 
--- both of two tests, and a number from 1 on
-both : (a b : Bool) → (a && b) ≡ true → (a ≡ true) × (b ≡ true)
-both true b e = (refl, e)
-both false b e = absurd (true≢false (sym e))
-
+-- a number from 1 on
 counted : (n k : ℕ) → from-to 1 n k ≡ true → (1 ≤ k) × (k ≤ n)
-counted n k e =
-    let t = both (leb 1 k) (leb k n) e in
-    (leb-true 1 k (t .0), leb-true k n (t .1))
+counted n k e = (leb-true 1 k (and-left (leb 1 k) (leb k n) e), leb-true k n (and-right (leb 1 k) (leb k n) e))
 
 -- the place of a field that is there holds the field's bytes, within the file
 pub text-lies : (f : List ℕ) (n k : ℕ) → isThere f n k ≡ true
     → IsPart f (placeOf f n k) (placeOf f n k + length (field bar k (recordAt f n))) (field bar k (recordAt f n))
 unfolding isThere placeOf
 text-lies f n k e =
-    let t = both (from-to 1 (length (records f)) n) (from-to 1 (length (fields bar (recordAt f n))) k) e in
-    let i = counted (length (records f)) n (t .0) in
-    let j = counted (length (fields bar (recordAt f n))) k (t .1) in
+    let many = length (fields bar (recordAt f n)) in
+    let i = counted (length (records f)) n (and-left (from-to 1 (length (records f)) n) (from-to 1 many k) e) in
+    let j = counted many k (and-right (from-to 1 (length (records f)) n) (from-to 1 many k) e) in
     let same = by-number bar k (recordAt f n) (j .0) in
     let here = part-in-part (record-lies (n - 1) f (omega arith)) (field-lies bar (k - 1) (recordAt f n) (omega arith)) in
     part-at refl (omega (arith, ap length same)) (part-as here same)

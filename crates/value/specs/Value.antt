@@ -1,5 +1,5 @@
 -- The value of one field of a file (document 01, "Bytes, records, fields" and refusal 18). Assumes nothing.
-use Prim.Native.Nat.{ℕ, _+_, _-_}
+use Prim.Native.Nat.{ℕ, _+_, _-_, _≤_}
 use mathlib.Core.Bool.{Bool, cond, _&&_}
 use mathlib.Core.List.{List, []}
 use lib.Dec.{eqb}
@@ -94,3 +94,11 @@ paper f (Text from to) = text from to (take (to - from) (drop from f))
 -- the value of one field of a file
 unfoldable pub valued : List ℕ → List ℕ → ℕ → ℕ → Reply
 valued name f n k = paper f (valueIn name f n k)
+
+-- what is promised besides: the place of a text is one within the file
+abbrev pub TextWithin : List ℕ → Value → Type 0
+TextWithin f (Refused n r k) = Unit
+TextWithin f Empty = Unit
+TextWithin f (Number z) = Unit
+TextWithin f (Truth b) = Unit
+TextWithin f (Text from to) = (from ≤ to) × (to ≤ length f)

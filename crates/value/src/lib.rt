@@ -8,8 +8,8 @@ ghost use mathlib.Core.Path.{_≡_};
 ghost use mathlib.Core.List.{List};
 ghost use Prim.Native.Nat.{ℕ, _≤_};
 ghost use Rattle.layout.specs.Numbers.{layoutOf};
-ghost use Rattle.value.specs.Value.{ruleFor, byRule, asValue, valueBy, valued, paper};
-ghost use Rattle.value.specs.Code.{Placed, TextWithin};
+ghost use Rattle.value.specs.Value.{ruleFor, byRule, asValue, valueBy, valued, paper, TextWithin};
+ghost use Rattle.value.specs.Code.{Placed};
 
 // A refusal with number, record and field; or a value. A text's value is where its bytes start and end in the file.
 pub enum Value {

@@ -1,10 +1,26 @@
 -- The tests stand in the order of the flows: the first name that is the same decides. Assumes nothing.
+use Prim.Native.Nat.{ℕ, suc}
 use mathlib.Core.Path.{sym, _∙_}
+use mathlib.Core.List.{List, map}
 use native.Mathlib.Omega.{arith}
+use denote.Ref.{now}
 use borrow.Author.Needs.{needs}
-use Rattle.flow.specs.Flows.{flowNumber}
+use lib.ListN.{drop}
+use Rattle.text.proofs.Places.{Sought, sought-all, sought-here, sought-next}
+use Rattle.flow.specs.Publication.{Flow}
+use Rattle.flow.specs.Flows.{flows, flowNumber}
 use Rattle.flow.proofs.flow_number.Statement.{statement}
 use Rattle.flow.proofs.flow_number.Tie as tie
+
+-- the first i names are passed
+abbrev Passed : ℕ → List ℕ → Type 0
+Passed i name = Sought (map (λ (f : Flow). f .name) flows) name (suc i) (drop i (map (λ (f : Flow). f .name) flows))
+
+start : (name : List ℕ) → Passed 0 name
+start name = sought-all
+
+abbrev name-1 : tie.Else1 → List ℕ
+name-1 c = now (c .before .before .before .before .args .name)
 
 slice-aggregate-same-bytes : tie.Need-slice-aggregate-same-bytes
 slice-aggregate-same-bytes c = search needs
@@ -15,8 +31,10 @@ same-bytes-requires c κs = search needs
 returns : tie.Need-returns
 unfolding flowNumber
 returns c =
-    let t1 = sym (c .before .same-bytes .ensures) ∙ c .if1 .taken in
-    (rw (t1), omega arith)
+    (sym (sought-here (start (now (c .before .before .before .before .args .name))) (sym (c .before .same-bytes .ensures) ∙ c .if1 .taken)), omega arith)
+
+passed-1 : (c : tie.Else1) → Passed 1 (name-1 c)
+passed-1 c = sought-next (start _) (sym (c .before .same-bytes .ensures) ∙ c .if1 .left)
 
 slice-aggregate-same-bytes-2 : tie.Need-slice-aggregate-same-bytes-2
 slice-aggregate-same-bytes-2 c = search needs
@@ -26,11 +44,10 @@ same-bytes-requires-2 c κs = search needs
 
 returns-2 : tie.Need-returns-2
 unfolding flowNumber
-returns-2 c =
-    let t2 = sym (c .before .same-bytes2 .ensures) ∙ c .if2 .taken in
-    let c1 = c .before .before .before in
-    let t1 = sym (c1 .before .same-bytes .ensures) ∙ c1 .if1 .left in
-    (rw (t1, t2), omega arith)
+returns-2 c = (sym (sought-here (passed-1 (c .before .before .before)) (sym (c .before .same-bytes2 .ensures) ∙ c .if2 .taken)), omega arith)
+
+passed-2 : (c : tie.Else2) → Passed 2 (name-1 (c .before .before .before))
+passed-2 c = sought-next (passed-1 (c .before .before .before)) (sym (c .before .same-bytes2 .ensures) ∙ c .if2 .left)
 
 slice-aggregate-same-bytes-3 : tie.Need-slice-aggregate-same-bytes-3
 slice-aggregate-same-bytes-3 c = search needs
@@ -40,13 +57,10 @@ same-bytes-requires-3 c κs = search needs
 
 returns-3 : tie.Need-returns-3
 unfolding flowNumber
-returns-3 c =
-    let t3 = sym (c .before .same-bytes3 .ensures) ∙ c .if3 .taken in
-    let c2 = c .before .before .before in
-    let t2 = sym (c2 .before .same-bytes2 .ensures) ∙ c2 .if2 .left in
-    let c1 = c2 .before .before .before in
-    let t1 = sym (c1 .before .same-bytes .ensures) ∙ c1 .if1 .left in
-    (rw (t1, t2, t3), omega arith)
+returns-3 c = (sym (sought-here (passed-2 (c .before .before .before)) (sym (c .before .same-bytes3 .ensures) ∙ c .if3 .taken)), omega arith)
+
+passed-3 : (c : tie.Else3) → Passed 3 (name-1 (c .before .before .before .before .before .before))
+passed-3 c = sought-next (passed-2 (c .before .before .before)) (sym (c .before .same-bytes3 .ensures) ∙ c .if3 .left)
 
 slice-aggregate-same-bytes-4 : tie.Need-slice-aggregate-same-bytes-4
 slice-aggregate-same-bytes-4 c = search needs
@@ -56,15 +70,10 @@ same-bytes-requires-4 c κs = search needs
 
 returns-4 : tie.Need-returns-4
 unfolding flowNumber
-returns-4 c =
-    let t4 = sym (c .before .same-bytes4 .ensures) ∙ c .if4 .taken in
-    let c3 = c .before .before .before in
-    let t3 = sym (c3 .before .same-bytes3 .ensures) ∙ c3 .if3 .left in
-    let c2 = c3 .before .before .before in
-    let t2 = sym (c2 .before .same-bytes2 .ensures) ∙ c2 .if2 .left in
-    let c1 = c2 .before .before .before in
-    let t1 = sym (c1 .before .same-bytes .ensures) ∙ c1 .if1 .left in
-    (rw (t1, t2, t3, t4), omega arith)
+returns-4 c = (sym (sought-here (passed-3 (c .before .before .before)) (sym (c .before .same-bytes4 .ensures) ∙ c .if4 .taken)), omega arith)
+
+passed-4 : (c : tie.Else4) → Passed 4 (name-1 (c .before .before .before .before .before .before .before .before .before))
+passed-4 c = sought-next (passed-3 (c .before .before .before)) (sym (c .before .same-bytes4 .ensures) ∙ c .if4 .left)
 
 slice-aggregate-same-bytes-5 : tie.Need-slice-aggregate-same-bytes-5
 slice-aggregate-same-bytes-5 c = search needs
@@ -74,17 +83,10 @@ same-bytes-requires-5 c κs = search needs
 
 returns-5 : tie.Need-returns-5
 unfolding flowNumber
-returns-5 c =
-    let t5 = sym (c .before .same-bytes5 .ensures) ∙ c .if5 .taken in
-    let c4 = c .before .before .before in
-    let t4 = sym (c4 .before .same-bytes4 .ensures) ∙ c4 .if4 .left in
-    let c3 = c4 .before .before .before in
-    let t3 = sym (c3 .before .same-bytes3 .ensures) ∙ c3 .if3 .left in
-    let c2 = c3 .before .before .before in
-    let t2 = sym (c2 .before .same-bytes2 .ensures) ∙ c2 .if2 .left in
-    let c1 = c2 .before .before .before in
-    let t1 = sym (c1 .before .same-bytes .ensures) ∙ c1 .if1 .left in
-    (rw (t1, t2, t3, t4, t5), omega arith)
+returns-5 c = (sym (sought-here (passed-4 (c .before .before .before)) (sym (c .before .same-bytes5 .ensures) ∙ c .if5 .taken)), omega arith)
+
+passed-5 : (c : tie.Else5) → Passed 5 (name-1 (c .before .before .before .before .before .before .before .before .before .before .before .before))
+passed-5 c = sought-next (passed-4 (c .before .before .before)) (sym (c .before .same-bytes5 .ensures) ∙ c .if5 .left)
 
 slice-aggregate-same-bytes-6 : tie.Need-slice-aggregate-same-bytes-6
 slice-aggregate-same-bytes-6 c = search needs
@@ -94,35 +96,11 @@ same-bytes-requires-6 c κs = search needs
 
 returns-6 : tie.Need-returns-6
 unfolding flowNumber
-returns-6 c =
-    let t6 = sym (c .before .same-bytes6 .ensures) ∙ c .if6 .taken in
-    let c5 = c .before .before .before in
-    let t5 = sym (c5 .before .same-bytes5 .ensures) ∙ c5 .if5 .left in
-    let c4 = c5 .before .before .before in
-    let t4 = sym (c4 .before .same-bytes4 .ensures) ∙ c4 .if4 .left in
-    let c3 = c4 .before .before .before in
-    let t3 = sym (c3 .before .same-bytes3 .ensures) ∙ c3 .if3 .left in
-    let c2 = c3 .before .before .before in
-    let t2 = sym (c2 .before .same-bytes2 .ensures) ∙ c2 .if2 .left in
-    let c1 = c2 .before .before .before in
-    let t1 = sym (c1 .before .same-bytes .ensures) ∙ c1 .if1 .left in
-    (rw (t1, t2, t3, t4, t5, t6), omega arith)
+returns-6 c = (sym (sought-here (passed-5 (c .before .before .before)) (sym (c .before .same-bytes6 .ensures) ∙ c .if6 .taken)), omega arith)
 
 returns-7 : tie.Need-returns-7
 unfolding flowNumber
-returns-7 c =
-    let t6 = sym (c .before .same-bytes6 .ensures) ∙ c .if6 .left in
-    let c5 = c .before .before .before in
-    let t5 = sym (c5 .before .same-bytes5 .ensures) ∙ c5 .if5 .left in
-    let c4 = c5 .before .before .before in
-    let t4 = sym (c4 .before .same-bytes4 .ensures) ∙ c4 .if4 .left in
-    let c3 = c4 .before .before .before in
-    let t3 = sym (c3 .before .same-bytes3 .ensures) ∙ c3 .if3 .left in
-    let c2 = c3 .before .before .before in
-    let t2 = sym (c2 .before .same-bytes2 .ensures) ∙ c2 .if2 .left in
-    let c1 = c2 .before .before .before in
-    let t1 = sym (c1 .before .same-bytes .ensures) ∙ c1 .if1 .left in
-    (rw (t1, t2, t3, t4, t5, t6), omega arith)
+returns-7 c = (sym (sought-next (passed-5 (c .before .before .before)) (sym (c .before .same-bytes6 .ensures) ∙ c .if6 .left) .is), omega arith)
 
 pub flow-number-spec : {M : Type 1} → statement M
 flow-number-spec =

@@ -8,11 +8,6 @@ use Rattle.judge.proofs.Flows.{no-flow, by-flow}
 use borrow.Author.Needs.{needs}
 use Rattle.judge.proofs.judge.Statement.{statement}
 use Rattle.judge.proofs.judge.Tie as tie
-use Rattle.judge.proofs.judge.Reads as reads
-use Rattle.judge.proofs.judge.Lts as lts
-use Rattle.flow.proofs.flow_number.Reads as flow-number-reads
-use Rattle.flow.proofs.table_of.Reads as table-of-reads
-use Rattle.judge.proofs.judge_by.Reads as judge-by-reads
 
 flow-number-requires : tie.Need-flow-number-requires
 flow-number-requires c κs = search needs

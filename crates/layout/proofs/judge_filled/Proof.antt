@@ -1,13 +1,12 @@
 -- The type's code leads to the rule of that type. Assumes nothing.
-use mathlib.Core.Path.{_∙_, ap}
+use mathlib.Core.Path.{refl, _∙_, ap}
 use Prim.Native.Nat.{ℕ, _/_, _%_}
-use native.Mathlib.Nat.{mod-lt}
-use lib.Dec.{lit<}
 use borrow.Author.Needs.{needs}
 use denote.Ref.{now}
 use Rattle.field.specs.Judge.{bare, filled}
 use Rattle.field.specs.declared.FieldType.the-variants as types
-use Rattle.layout.proofs.FieldRules.{filled-by, type-text, type-int, type-dec, type-date, type-datetime, type-bol, type-period, type-null, only-seven}
+use Rattle.field.proofs.Codes.{coded-null}
+use Rattle.layout.proofs.FieldRules.{filled-by, type-coded}
 use Rattle.layout.proofs.judge_filled.Statement.{statement}
 use Rattle.layout.proofs.judge_filled.Tie as tie
 
@@ -45,51 +44,51 @@ returns : tie.Need-returns
 returns c =
     let a = c .before .before .before .before .before .args in
     let w = c .before .before .word in
-    λ bytes. c .judge-text .ensures ∙ filled-by (now (a .t)) bytes (a .p) (now (a .s)) _ (type-text (now (a .t)) (a .p) (w .result) (w .ensures .0) (c .before .match .keys1))
+    λ bytes. c .judge-text .ensures ∙ filled-by (now (a .t)) bytes (a .p) (now (a .s)) _ (type-coded (now (a .t)) (a .p) (w .result) (w .ensures .0) (c .before .match .keys1))
 
 returns-2 : tie.Need-returns-2
 returns-2 c =
     let a = c .before .before .before .before .before .before .args in
     let w = c .before .before .before .word in
-    λ bytes. c .judge-int .ensures ∙ ap (λ (n : ℕ). filled (types.Int n) bare (now (a .s))) (c .before .smaller .ensures) ∙ filled-by (now (a .t)) bytes (a .p) (now (a .s)) _ (type-int (now (a .t)) (a .p) (w .result) (w .ensures .0) (c .before .before .match .keys2))
+    λ bytes. c .judge-int .ensures ∙ ap (λ (n : ℕ). filled (types.Int n) bare (now (a .s))) (c .before .smaller .ensures) ∙ filled-by (now (a .t)) bytes (a .p) (now (a .s)) _ (type-coded (now (a .t)) (a .p) (w .result) (w .ensures .0) (c .before .before .match .keys2))
 
 returns-3 : tie.Need-returns-3
 returns-3 c =
     let a = c .before .before .before .before .before .before .args in
     let w = c .before .before .before .word in
-    λ bytes. c .judge-dec .ensures ∙ ap (λ (n : ℕ). filled (types.Dec n (w .result / 8192 % 32)) bare (now (a .s))) (c .before .smaller2 .ensures) ∙ filled-by (now (a .t)) bytes (a .p) (now (a .s)) _ (type-dec (now (a .t)) (a .p) (w .result) (w .ensures .0) (c .before .before .match .keys3))
+    λ bytes. c .judge-dec .ensures ∙ ap (λ (n : ℕ). filled (types.Dec n (w .result / 8192 % 32)) bare (now (a .s))) (c .before .smaller2 .ensures) ∙ filled-by (now (a .t)) bytes (a .p) (now (a .s)) _ (type-coded (now (a .t)) (a .p) (w .result) (w .ensures .0) (c .before .before .match .keys3))
 
 returns-4 : tie.Need-returns-4
 returns-4 c =
     let a = c .before .before .before .before .before .args in
     let w = c .before .before .word in
-    λ bytes. c .judge-date .ensures ∙ filled-by (now (a .t)) bytes (a .p) (now (a .s)) _ (type-date (now (a .t)) (a .p) (w .result) (w .ensures .0) (c .before .match .keys4))
+    λ bytes. c .judge-date .ensures ∙ filled-by (now (a .t)) bytes (a .p) (now (a .s)) _ (type-coded (now (a .t)) (a .p) (w .result) (w .ensures .0) (c .before .match .keys4))
 
 returns-5 : tie.Need-returns-5
 returns-5 c =
     let a = c .before .before .before .before .before .args in
     let w = c .before .before .word in
-    λ bytes. c .judge-datetime .ensures ∙ filled-by (now (a .t)) bytes (a .p) (now (a .s)) _ (type-datetime (now (a .t)) (a .p) (w .result) (w .ensures .0) (c .before .match .keys5))
+    λ bytes. c .judge-datetime .ensures ∙ filled-by (now (a .t)) bytes (a .p) (now (a .s)) _ (type-coded (now (a .t)) (a .p) (w .result) (w .ensures .0) (c .before .match .keys5))
 
 returns-6 : tie.Need-returns-6
 returns-6 c =
     let a = c .before .before .before .before .before .args in
     let w = c .before .before .word in
-    λ bytes. c .judge-bol .ensures ∙ filled-by (now (a .t)) bytes (a .p) (now (a .s)) _ (type-bol (now (a .t)) (a .p) (w .result) (w .ensures .0) (c .before .match .keys6))
+    λ bytes. c .judge-bol .ensures ∙ filled-by (now (a .t)) bytes (a .p) (now (a .s)) _ (type-coded (now (a .t)) (a .p) (w .result) (w .ensures .0) (c .before .match .keys6))
 
 returns-7 : tie.Need-returns-7
 returns-7 c =
     let a = c .before .before .before .before .before .args in
     let w = c .before .before .word in
-    λ bytes. c .judge-period .ensures ∙ filled-by (now (a .t)) bytes (a .p) (now (a .s)) _ (type-period (now (a .t)) (a .p) (w .result) (w .ensures .0) (c .before .match .keys7))
+    λ bytes. c .judge-period .ensures ∙ filled-by (now (a .t)) bytes (a .p) (now (a .s)) _ (type-coded (now (a .t)) (a .p) (w .result) (w .ensures .0) (c .before .match .keys7))
 
 returns-8 : tie.Need-returns-8
 returns-8 c =
     let a = c .before .before .before .before .args in
     let w = c .before .word in
     let k = c .match .rest in
-    let seven = only-seven (w .result % 8) (mod-lt (w .result) {m = 8} (lit< tt)) (k .0 .0 .0 .0 .0 .0 .1) (k .0 .0 .0 .0 .0 .1) (k .0 .0 .0 .0 .1) (k .0 .0 .0 .1) (k .0 .0 .1) (k .0 .1) (k .1) in
-    λ bytes. filled-by (now (a .t)) bytes (a .p) (now (a .s)) types.Null (type-null (now (a .t)) (a .p) (w .result) (w .ensures .0) seven)
+    let null = coded-null (w .result % 8) _ _ _ (k .0 .0 .0 .0 .0 .0 .1) (k .0 .0 .0 .0 .0 .1) (k .0 .0 .0 .0 .1) (k .0 .0 .0 .1) (k .0 .0 .1) (k .0 .1) (k .1) in
+    λ bytes. filled-by (now (a .t)) bytes (a .p) (now (a .s)) types.Null (null ∙ type-coded (now (a .t)) (a .p) (w .result) (w .ensures .0) refl)
 
 pub judge-filled-spec : {M : Type 1} → statement M
 judge-filled-spec =

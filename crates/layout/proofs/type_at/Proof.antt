@@ -1,13 +1,12 @@
 -- The type's code is the lowest octal digit, and the widths of numbers are clipped. Assumes nothing.
-use mathlib.Core.Path.{_∙_, ap}
+use mathlib.Core.Path.{refl, _∙_, ap}
 use Prim.Native.Nat.{ℕ, _/_, _%_}
-use native.Mathlib.Nat.{mod-lt}
 use native.Mathlib.Omega.{arith}
-use lib.Dec.{lit<}
 use borrow.Author.Needs.{needs}
 use denote.Ref.{now}
 use Rattle.field.specs.declared.FieldType.the-variants as types
-use Rattle.layout.proofs.FieldRules.{type-text, type-int, type-dec, type-date, type-datetime, type-bol, type-period, type-null, only-seven}
+use Rattle.field.proofs.Codes.{coded-null}
+use Rattle.layout.proofs.FieldRules.{type-coded}
 use Rattle.layout.proofs.type_at.Statement.{statement}
 use Rattle.layout.proofs.type_at.Tie as tie
 
@@ -24,13 +23,13 @@ returns : tie.Need-returns
 returns c =
     let a = c .before .before .before .args in
     let w = c .before .word in
-    (type-text (now (a .t)) (a .p) (w .result) (w .ensures .0) (c .match .keys1), tt)
+    (type-coded (now (a .t)) (a .p) (w .result) (w .ensures .0) (c .match .keys1), tt)
 
 returns-2 : tie.Need-returns-2
 returns-2 c =
     let a = c .before .before .before .before .args in
     let w = c .before .before .word in (
-      ap (λ (n : ℕ). types.Int n) (c .smaller .ensures) ∙ type-int (now (a .t)) (a .p) (w .result) (w .ensures .0) (c .before .match .keys2),
+      ap (λ (n : ℕ). types.Int n) (c .smaller .ensures) ∙ type-coded (now (a .t)) (a .p) (w .result) (w .ensures .0) (c .before .match .keys2),
       omega arith,
     )
 
@@ -38,7 +37,7 @@ returns-3 : tie.Need-returns-3
 returns-3 c =
     let a = c .before .before .before .before .args in
     let w = c .before .before .word in (
-      ap (λ (n : ℕ). types.Dec n (w .result / 8192 % 32)) (c .smaller2 .ensures) ∙ type-dec (now (a .t)) (a .p) (w .result) (w .ensures .0) (c .before .match .keys3),
+      ap (λ (n : ℕ). types.Dec n (w .result / 8192 % 32)) (c .smaller2 .ensures) ∙ type-coded (now (a .t)) (a .p) (w .result) (w .ensures .0) (c .before .match .keys3),
       omega arith,
     )
 
@@ -46,33 +45,33 @@ returns-4 : tie.Need-returns-4
 returns-4 c =
     let a = c .before .before .before .args in
     let w = c .before .word in
-    (type-date (now (a .t)) (a .p) (w .result) (w .ensures .0) (c .match .keys4), tt)
+    (type-coded (now (a .t)) (a .p) (w .result) (w .ensures .0) (c .match .keys4), tt)
 
 returns-5 : tie.Need-returns-5
 returns-5 c =
     let a = c .before .before .before .args in
     let w = c .before .word in
-    (type-datetime (now (a .t)) (a .p) (w .result) (w .ensures .0) (c .match .keys5), tt)
+    (type-coded (now (a .t)) (a .p) (w .result) (w .ensures .0) (c .match .keys5), tt)
 
 returns-6 : tie.Need-returns-6
 returns-6 c =
     let a = c .before .before .before .args in
     let w = c .before .word in
-    (type-bol (now (a .t)) (a .p) (w .result) (w .ensures .0) (c .match .keys6), tt)
+    (type-coded (now (a .t)) (a .p) (w .result) (w .ensures .0) (c .match .keys6), tt)
 
 returns-7 : tie.Need-returns-7
 returns-7 c =
     let a = c .before .before .before .args in
     let w = c .before .word in
-    (type-period (now (a .t)) (a .p) (w .result) (w .ensures .0) (c .match .keys7), tt)
+    (type-coded (now (a .t)) (a .p) (w .result) (w .ensures .0) (c .match .keys7), tt)
 
 returns-8 : tie.Need-returns-8
 returns-8 c =
     let a = c .before .before .before .args in
     let w = c .before .word in
     let k = c .match .rest in
-    let seven = only-seven (w .result % 8) (mod-lt (w .result) {m = 8} (lit< tt)) (k .0 .0 .0 .0 .0 .0 .1) (k .0 .0 .0 .0 .0 .1) (k .0 .0 .0 .0 .1) (k .0 .0 .0 .1) (k .0 .0 .1) (k .0 .1) (k .1) in
-    (type-null (now (a .t)) (a .p) (w .result) (w .ensures .0) seven, tt)
+    let null = coded-null (w .result % 8) _ _ _ (k .0 .0 .0 .0 .0 .0 .1) (k .0 .0 .0 .0 .0 .1) (k .0 .0 .0 .0 .1) (k .0 .0 .0 .1) (k .0 .0 .1) (k .0 .1) (k .1) in
+    (null ∙ type-coded (now (a .t)) (a .p) (w .result) (w .ensures .0) refl, tt)
 
 pub type-at-spec : {M : Type 1} → statement M
 type-at-spec =

@@ -1,9 +1,16 @@
 -- `step_cells` is right: each case of the answer is turned to its four numbers.
+use Prim.Native.Nat.{ℕ}
 use mathlib.Core.Path.{sym, ap}
+use mathlib.Core.List.{List}
+use Rattle.flow.specs.Step.{paper}
+use Rattle.flow.specs.declared.StepAnswer.{StepAnswer}
 use Rattle.screen.specs.Numbers.{stepCells}
 use borrow.Author.Needs.{needs}
 use Rattle.screen.proofs.step_cells.Statement.{statement}
 use Rattle.screen.proofs.step_cells.Tie as tie
+
+abbrev says : StepAnswer → List ℕ
+says a = stepCells (paper a)
 
 enum-known-a : tie.Need-enum-known-a
 enum-known-a c = search needs
@@ -21,13 +28,13 @@ flag-requires : tie.Need-flag-requires
 flag-requires c κs = search needs
 
 returns : tie.Need-returns
-returns c = sym (ap stepCells (c .before .a .given .1))
+returns c = sym (ap says (c .before .a .given .1))
 
 returns-2 : tie.Need-returns-2
-returns-2 c = sym (ap stepCells (c .before .a2 .given .1))
+returns-2 c = sym (ap says (c .before .a2 .given .1))
 
 returns-3 : tie.Need-returns-3
-returns-3 c = rw (c .flag .ensures) (sym (ap stepCells (c .before .before .a3 .given .1)))
+returns-3 c = rw (c .flag .ensures) (sym (ap says (c .before .before .a3 .given .1)))
 
 pub step-cells-spec : {M : Type 1} → statement M
 step-cells-spec =

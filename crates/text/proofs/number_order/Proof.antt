@@ -3,8 +3,6 @@ use mathlib.Core.Path.{sym}
 use Rattle.text.proofs.Orders.{number-below, number-above, number-equal}
 use Rattle.text.proofs.number_order.Statement.{statement}
 use Rattle.text.proofs.number_order.Tie as tie
-use Rattle.text.proofs.number_order.Reads as reads
-use Rattle.text.proofs.number_order.Lts as lts
 
 returns : tie.Need-returns
 returns c = sym (number-below _ _ (c .if1 .taken))

@@ -5,8 +5,6 @@ use Rattle.text.proofs.Parts.{part-past, part-rest, part-all}
 use borrow.Author.Needs.{needs}
 use Rattle.text.proofs.part.Statement.{statement}
 use Rattle.text.proofs.part.Tie as tie
-use Rattle.text.proofs.part.Reads as reads
-use Rattle.text.proofs.part.Lts as lts
 
 sub-result : tie.Need-sub-result
 sub-result c = search needs

@@ -7,8 +7,6 @@ use Rattle.text.specs.Order.{sameBytes}
 use Rattle.text.proofs.Lists.{same-long, same-fails, same-next, same-end}
 use Rattle.text.proofs.same_bytes.Statement.{statement}
 use Rattle.text.proofs.same_bytes.Tie as tie
-use Rattle.text.proofs.same_bytes.Reads as reads
-use Rattle.text.proofs.same_bytes.Lts as lts
 
 abbrev Inv-loop : tie.InvT-loop
 Inv-loop a b i₀ i = (i ≤ length a) × (length a ≡ length b) × (sameBytes (drop i a) (drop i b) ≡ sameBytes a b)

@@ -49,6 +49,10 @@ by-test false f g = g (λ t. t)
 -- a test that is true holds
 pub holds : {b : Bool} → b ≡ true → T b
 holds e = rw e tt
+
+pub is-true : (b : Bool) → T b → b ≡ true
+is-true true t = refl
+is-true false t = absurd t
 
 -- tests that are the same are equal
 pub beq-eq : (a b : Bool) → T (Bool·beq a b) → a ≡ b
