@@ -1,2 +1,4 @@
 pub mod Cases
 pub mod Refusals
+pub mod Limits
+pub mod Sheets
