@@ -1,8 +1,8 @@
 -- A case of document 01: a call of a public part, and what the paper answers. Assumes nothing.
 use Prim.Native.Nat.{ℕ, zero, suc}
 use Prim.Native.String.{String}
-use mathlib.Core.Path.{_≡_, refl, ap}
-use mathlib.Core.List.{List, [], _∷_, _++_}
+use mathlib.Core.Path.{_≡_, refl, sym, ap, _∙_}
+use mathlib.Core.List.{List, [], _∷_, _++_, map, map-append}
 use lib.ListN.{length}
 use Rattle.text.specs.Characters.{bytes}
 use Rattle.record.specs.Checksum.{checksumOf}
@@ -68,24 +68,29 @@ abbrev pub transferred : Transfer → List ℕ → List ℕ → Said
 transferred answer result old = ofSheet (paper answer) (output answer result old)
 
 -- the answer by the definitions
-unfoldable pub given : List Case → List Said
-given [] = []
-given (judging flow f r ∷ cs) = ofFile (judged (bytes flow) f) ∷ given cs
-given (writing flow s old r new ∷ cs) = transferred (written (bytes flow) s (length old)) (made s) old ∷ given cs
-given (reading flow f old r new ∷ cs) = transferred (readTo (bytes flow) f (length old)) (sheetOf f) old ∷ given cs
-given (asking flow f n k r ∷ cs) = ofValue (valued (bytes flow) f n k) ∷ given cs
-given (ofType t m s r ∷ cs) = ofField (fieldJudged t m (bytes s)) ∷ given cs
-given (summing s n ∷ cs) = ofSum (checksumOf s) ∷ given cs
+unfoldable pub given : Case → Said
+given (judging flow f r) = ofFile (judged (bytes flow) f)
+given (writing flow s old r new) = transferred (written (bytes flow) s (length old)) (made s) old
+given (reading flow f old r new) = transferred (readTo (bytes flow) f (length old)) (sheetOf f) old
+given (asking flow f n k r) = ofValue (valued (bytes flow) f n k)
+given (ofType t m s r) = ofField (fieldJudged t m (bytes s))
+given (summing s n) = ofSum (checksumOf s)
 
 -- the answer by document 01
-unfoldable pub expected : List Case → List Said
-expected [] = []
-expected (judging flow f r ∷ cs) = ofFile r ∷ expected cs
-expected (writing flow s old r new ∷ cs) = ofSheet r new ∷ expected cs
-expected (reading flow f old r new ∷ cs) = ofSheet r new ∷ expected cs
-expected (asking flow f n k r ∷ cs) = ofValue r ∷ expected cs
-expected (ofType t m s r ∷ cs) = ofField r ∷ expected cs
-expected (summing s n ∷ cs) = ofSum n ∷ expected cs
+unfoldable pub expected : Case → Said
+expected (judging flow f r) = ofFile r
+expected (writing flow s old r new) = ofSheet r new
+expected (reading flow f old r new) = ofSheet r new
+expected (asking flow f n k r) = ofValue r
+expected (ofType t m s r) = ofField r
+expected (summing s n) = ofSum n
+
+-- all of some cases are answered as document 01 says
+abbrev pub Right : List Case → Type 0
+Right cs = map given cs ≡ map expected cs
+
+pub both-right : (a b : List Case) → Right a → Right b → Right (a ++ b)
+both-right a b p q = map-append given a b ∙ (λ i. p i ++ q i) ∙ sym (map-append expected a b)
 
 -- a record with a fault: its text, the refusal's number and the field
 pub data Bad : Type 0 where

@@ -2,3 +2,10 @@ pub mod Cases
 pub mod Refusals
 pub mod Limits
 pub mod Sheets
+pub mod P0012
+pub mod P0181
+pub mod P0133
+pub mod P0134
+pub mod P0138
+pub mod P0164
+pub mod Answers

@@ -17,7 +17,7 @@ use Rattle.sheet.specs.Sheets.{barLine}
 use Rattle.sheet.specs.Write.{written}
 use Rattle.sheet.specs.Write as ofSheet
 use Rattle.sheet.specs.Read.{readTo}
-use Rattle.answers.proofs.Cases.{copies, copies-length, Case, judging, writing, reading, asking, given, expected}
+use Rattle.answers.proofs.Cases.{copies, copies-length, Case, judging, writing, reading, asking, given, expected, Right}
 
 -- feeds, a letter or bars over a file's limit; bytes that fill a file up to its limit; and so of a sheet
 unfoldable pub limitsOf : List ℕ → List ℕ → List ℕ → List ℕ → List ℕ → List ℕ → List Case
@@ -46,7 +46,7 @@ module _ (feeds letters rest sheetFeeds bars sheetRest : List ℕ) where
       → length sheetFeeds ≡ 1048001
       → length bars ≡ 1048001
       → length sheetRest ≡ 1047998
-      → given (limitsOf feeds letters rest sheetFeeds bars sheetRest) ≡ expected (limitsOf feeds letters rest sheetFeeds bars sheetRest)
+      → Right (limitsOf feeds letters rest sheetFeeds bars sheetRest)
   unfolding given expected limitsOf onto records fields field holds find flowNumber placeFault kindFault fault checkedFrom judgedBy verdict judged valueIn valued barLine written readTo
   by-length a b c d e f = rw (a, b, c, d, e, f) refl
 
@@ -54,7 +54,7 @@ unfoldable pub limits : List Case
 limits = limitsOf (copies 1048577 0x0A) (copies 1048577 0x41) (copies 1048575 0x0A) (copies 1048001 0x0A) (copies 1048001 0x7C) (copies 1047998 0x0A)
 
 -- each is answered as document 01 says
-pub limits-right : given limits ≡ expected limits
+pub limits-right : Right limits
 unfolding limits
 limits-right =
     by-length (copies 1048577 0x0A) (copies 1048577 0x41) (copies 1048575 0x0A) (copies 1048001 0x0A) (copies 1048001 0x7C)

@@ -3,35 +3,16 @@
 -- in Sheets. Assumes nothing.
 use Prim.Native.Nat.{ℕ}
 use Prim.Native.String.{String}
-use mathlib.Core.Path.{_≡_, refl}
-use mathlib.Core.Bool.{true}
 use mathlib.Core.List.{List, [], _∷_, _++_}
 use lib.IntN.{pos}
-use Rattle.text.specs.Characters.{bytes, isDigit, isText}
-use Rattle.record.specs.Records.{joined, onto, records, fields, field, extent, bar as barOf, barred, holds}
-use Rattle.record.specs.Checksum.{words, addRecord, checksum, checksumOf}
-use Rattle.number.specs.Numbers.{minus, unsigned, plain, intForm, intValue, decForm, decValue, spelled, decimalIn, decimal}
-use Rattle.number.specs.Calendar.{leap, daysIn, isDay, isDate, isTime}
-use Rattle.field.specs.Types.{textForm, bolForm, periodRange, form, range, valueOf, widthRight}
-use Rattle.field.specs.Judge.{bare, opt, fixed, filled, fieldAnswer, judgedAs, fieldJudged}
+use Rattle.text.specs.Characters.{bytes}
+use Rattle.field.specs.Judge.{bare, fixed}
 use Rattle.field.specs.Judge as ofField
 use Rattle.field.specs.declared.FieldType.the-variants.{Text, Int, Dec, Date, Null}
-use Rattle.field.specs.Keys.{keyOrder}
-use Rattle.text.specs.Order.{numberOrder, textOrder}
-use Rattle.number.specs.Order.{digitsOrder, wholeOrder}
-use Rattle.layout.specs.Layout.{among, find}
-use Rattle.flow.specs.Flows.{flowNumber}
-use Rattle.fault.specs.Fields.{fieldFault, fieldsFault}
-use Rattle.fault.specs.Record.{placeFault, shapeFault, keyFault, footerFault, kindFault}
-use Rattle.judge.specs.Record.{lastKind, keyWith, keyBefore, fault}
-use Rattle.judge.specs.File.{checkedFrom, ended, judgedBy, verdict, judged, accepted, refused}
-use Rattle.value.specs.Value.{isThere, placeOf, fieldValue, valueBy, valueIn, valued}
+use Rattle.judge.specs.File.{accepted, refused}
 use Rattle.value.specs.Value as ofValue
-use Rattle.sheet.specs.Sheets.{turned, footer, made, barLine, butLast, sheetOf}
-use Rattle.sheet.specs.Write.{written}
 use Rattle.sheet.specs.Write as ofSheet
-use Rattle.sheet.specs.Read.{readTo}
-use Rattle.answers.proofs.Cases.{lines, unended, copies, Case, judging, writing, reading, asking, ofType, summing, given, expected}
+use Rattle.answers.proofs.Cases.{lines, unended, copies, Case, judging, writing, reading, asking, ofType, summing}
 
 -- the example of document 01
 abbrev zhd : String
@@ -217,12 +198,3 @@ neighbours =
     ∷ ofType (Text 1) (fixed (bytes "M")) "NN" (ofField.refused 9 0 0)
     ∷ ofType Null bare " " (ofField.refused 10 0 0)
     ∷ []
-
--- each is answered as document 01 says
-pub refusals-right : given refusals ≡ expected refusals
-unfolding copies given expected refusals joined onto records fields field extent barOf barred holds words addRecord checksum checksumOf minus unsigned plain intForm intValue decForm decValue spelled decimalIn decimal leap daysIn isDay isDate isTime textForm bolForm periodRange form range valueOf widthRight filled fieldAnswer judgedAs fieldJudged keyOrder numberOrder textOrder digitsOrder wholeOrder among find flowNumber isDigit isText fieldFault fieldsFault lastKind keyWith keyBefore placeFault shapeFault keyFault footerFault kindFault fault checkedFrom ended judgedBy verdict judged isThere placeOf fieldValue valueBy valueIn valued turned footer made barLine butLast sheetOf written readTo
-refusals-right = refl
-
-pub neighbours-right : given neighbours ≡ expected neighbours
-unfolding copies given expected neighbours joined onto records fields field extent barOf barred holds words addRecord checksum checksumOf minus unsigned plain intForm intValue decForm decValue spelled decimalIn decimal leap daysIn isDay isDate isTime textForm bolForm periodRange form range valueOf widthRight filled fieldAnswer judgedAs fieldJudged keyOrder numberOrder textOrder digitsOrder wholeOrder among find flowNumber isDigit isText fieldFault fieldsFault lastKind keyWith keyBefore placeFault shapeFault keyFault footerFault kindFault fault checkedFrom ended judgedBy verdict judged isThere placeOf fieldValue valueBy valueIn valued turned footer made barLine butLast sheetOf written readTo
-neighbours-right = refl

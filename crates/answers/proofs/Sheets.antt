@@ -25,7 +25,7 @@ use Rattle.judge.specs.declared.Verdict.{Verdict}
 use Rattle.judge.specs.declared.Verdict.the-variants.{Accepted, Refused}
 use Rattle.sheet.specs.Sheets.{tab, turned, footer, made}
 use Rattle.sheet.specs.Write.{linesEnded, asJudged, fitted, written, done, refused}
-use Rattle.answers.proofs.Cases.{lines, copies, Case, writing, transferred, given, expected}
+use Rattle.answers.proofs.Cases.{lines, copies, Case, writing, transferred, given, expected, Right}
 
 -- a made file, whose footer is spelled by some digits
 module _ (sheet : List ℕ) (count sum : String) where
@@ -112,7 +112,7 @@ unfolding copies onto records fields field barOf barred words addRecord checksum
 footed-judged = refl
 
 -- each is answered as document 01 says
-pub sheets-right : given sheets ≡ expected sheets
+pub sheets-right : Right sheets
 unfolding given expected sheets copies flowNumber holds
 sheets-right =
     λ i.
