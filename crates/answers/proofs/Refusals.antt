@@ -3,8 +3,9 @@
 -- in Sheets. Assumes nothing.
 use Prim.Native.Nat.{ℕ}
 use Prim.Native.String.{String}
+use mathlib.Core.Bool.{true, false}
 use mathlib.Core.List.{List, [], _∷_, _++_}
-use lib.IntN.{pos}
+use lib.IntN.{pos, negℤ}
 use Rattle.text.specs.Characters.{bytes}
 use Rattle.field.specs.Judge.{bare, fixed}
 use Rattle.field.specs.Judge as ofField
@@ -31,7 +32,7 @@ example = lines (zhd ∷ sub ∷ ta2 ∷ "ZPT|4|812996689" ∷ [])
 abbrev sheet : List ℕ
 sheet = lines ("ZHD\tP0138001\tG\tSVAA\tZ\tPOOL\t20240105120000" ∷ "SUB\tB\t\t\t20231231\tM" ∷ "TA2\t1.0250" ∷ [])
 
--- how files of P0012, P0181 and P0164 begin
+-- how files of P0012, P0181, P0133 and P0164 begin
 abbrev zhd12 : String
 zhd12 = "ZHD|P0012001|G|SVAA|Z|POOL|20240105120000"
 
@@ -47,11 +48,21 @@ zhd81 = "ZHD|P0181002|G|SVAA|Z|POOL|20240105120000"
 abbrev gs7 : String
 gs7 = "GS7|_A"
 
+abbrev zhd33 : String
+zhd33 = "ZHD|P0133001|Z|SVAA|Z|POOL|20240105120000"
+
 abbrev zhd64 : String
 zhd64 = "ZHD|P0164001|G|SVAA|Z|POOL|20240105120000"
 
 abbrev sub64 : String
 sub64 = "SUB|B|X|LOND|20231231|M"
+
+-- right files with a row of P0012, and with units of P0181
+abbrev rows : List ℕ
+rows = lines (zhd12 ∷ zpd ∷ hdr ∷ "GSP|7|-12|-0.0005" ∷ "ZPT|5|5797155" ∷ [])
+
+abbrev units : List ℕ
+units = lines (zhd81 ∷ gs7 ∷ "SUP|ABCD" ∷ "BMU|A|20240101|20241231|T" ∷ "BMU|B|20240101||F" ∷ "ZPT|6|508052562" ∷ [])
 
 -- an output of so many bytes, each an x
 abbrev room : ℕ → List ℕ
@@ -86,8 +97,11 @@ refusals =
     ∷ judging "P0138001" (lines (zhd ∷ "SUB|B||||M" ∷ [])) (refused 7 2 5)
     -- 8 form
     ∷ judging "P0138001" (lines (zhd ∷ "SUB|B|||2023123A|M" ∷ [])) (refused 8 2 5)
-    -- 9 range
+    -- a carriage return is no delimiter
+    ∷ judging "P0138001" (bytes "ZHD|P0138001|G|SVAA|Z|POOL|20240105120000\r\n") (refused 8 1 7)
+    -- 9 range; NULL is no word to be sent
     ∷ judging "P0138001" (lines (zhd ∷ "SUB|B|||20231232|M" ∷ [])) (refused 9 2 5)
+    ∷ judging "P0133001" (lines (zhd33 ∷ "SB1|H|M|ABCDEFGH|20231231|M" ∷ "CM1|NULL|1|1.0|1" ∷ [])) (refused 9 3 2)
     -- 10 fixed value differs, null field filled
     ∷ judging "P0138001" (lines (zhd ∷ "SUB|C|||20231231|M" ∷ [])) (refused 10 2 2)
     ∷ judging "P0138001" (lines (zhd ∷ "SUB|B||X|20231231|M" ∷ [])) (refused 10 2 4)
@@ -101,7 +115,9 @@ refusals =
     ∷ judging "P0164001" (lines (zhd64 ∷ sub64 ∷ "SP7|AB|ABCD|A|20231231|AB|1" ∷ "SP7|AB|ABCD|A|20240101|AB|1" ∷ "SP7|AC|ABCD|A|20240101|AB|1" ∷ [])) (refused 11 5 5)
     -- 12 record count wrong, 13 checksum wrong
     ∷ judging "P0138001" (lines (zhd ∷ sub ∷ ta2 ∷ "ZPT|3|812996689" ∷ [])) (refused 12 4 2)
+    ∷ judging "P0138001" (lines (zhd ∷ sub ∷ ta2 ∷ "ZPT|-4|812996689" ∷ [])) (refused 12 4 2)
     ∷ judging "P0138001" (lines (zhd ∷ sub ∷ ta2 ∷ "ZPT|4|0" ∷ [])) (refused 13 4 3)
+    ∷ judging "P0138001" (lines (zhd ∷ sub ∷ ta2 ∷ "ZPT|4|-812996689" ∷ [])) (refused 13 4 3)
     -- 14 records end before ZPT
     ∷ judging "P0138001" [] (refused 14 1 0)
     ∷ judging "P0138001" (lines (zhd ∷ [])) (refused 14 2 0)
@@ -111,7 +127,7 @@ refusals =
     ∷ judging "P0012001" (lines (zhd12 ∷ zpd ∷ hdr ∷ "ZPT|4|1497044334" ∷ [])) (accepted 4)
     ∷ judging "P0181002" (unended (zhd81 ∷ gs7 ∷ "ZPT|3|526275177" ∷ [])) (refused 15 3 0)
     ∷ judging "P0181002" (lines (zhd81 ∷ gs7 ∷ "ZPT|3|526275177" ∷ [])) (accepted 3)
-    ∷ judging "P0133001" (unended ("ZHD|P0133001|Z|SVAA|Z|POOL|20240105120000" ∷ "ZPT|2|89220381" ∷ [])) (accepted 2)
+    ∷ judging "P0133001" (unended (zhd33 ∷ "ZPT|2|89220381" ∷ [])) (accepted 2)
     ∷ judging "P0134001" (unended ("ZHD|P0134001|Z|SVAA|Z|POOL|20240105120000" ∷ "ZPT|2|38888733" ∷ [])) (accepted 2)
     ∷ judging "P0138001" (unended (zhd ∷ sub ∷ ta2 ∷ "ZPT|4|812996689" ∷ [])) (accepted 4)
     ∷ judging "P0164001" (unended (zhd64 ∷ "ZPT|2|38561048" ∷ [])) (accepted 2)
@@ -127,12 +143,23 @@ refusals =
     ∷ asking "P0138001" example 0 1 (ofValue.refused 18 0 1)
     ∷ asking "P0138001" example 2 7 (ofValue.refused 18 2 7)
     ∷ asking "P0138001" example 2 0 (ofValue.refused 18 2 0)
-    ∷ asking "P0138001" example 2 6 (ofValue.text 59 60 (bytes "M"))
-    ∷ asking "P0138001" example 4 3 (ofValue.number (pos 812996689))
-    ∷ asking "P0138001" example 2 4 ofValue.empty
     ∷ ofType (Text 513) bare "A" (ofField.refused 18 0 0)
     ∷ ofType (Int 19) bare "1" (ofField.refused 18 0 0)
     ∷ ofType (Dec 18 18) bare "1.0" (ofField.refused 18 0 0)
+    -- the value of what is there: a kind's and a text's bytes with their place, numbers, yes or no, empty
+    ∷ asking "P0138001" example 1 1 (ofValue.text 0 3 (bytes "ZHD"))
+    ∷ asking "P0138001" example 1 7 (ofValue.number (pos 20240105120000))
+    ∷ asking "P0138001" example 2 5 (ofValue.number (pos 20231231))
+    ∷ asking "P0138001" example 2 6 (ofValue.text 59 60 (bytes "M"))
+    ∷ asking "P0138001" example 2 4 ofValue.empty
+    ∷ asking "P0138001" example 3 2 (ofValue.number (pos 10250))
+    ∷ asking "P0138001" example 4 3 (ofValue.number (pos 812996689))
+    ∷ asking "P0012001" rows 4 2 (ofValue.number (pos 7))
+    ∷ asking "P0012001" rows 4 3 (ofValue.number (negℤ (pos 12)))
+    ∷ asking "P0012001" rows 4 4 (ofValue.number (negℤ (pos 5)))
+    ∷ asking "P0181002" units 4 5 (ofValue.truth true)
+    ∷ asking "P0181002" units 5 5 (ofValue.truth false)
+    ∷ asking "P0181002" units 5 4 ofValue.empty
     -- the checksum takes every record, the footer too, and no line feed
     ∷ summing example 1515729962
     ∷ summing (bytes "ABCDE\n\nAB") 1157645124
