@@ -9,6 +9,7 @@ use Rattle.record.specs.Checksum.{checksumOf}
 use Rattle.field.specs.Judge.{Marked, fieldJudged}
 use Rattle.field.specs.Judge as field
 use Rattle.field.specs.declared.FieldType.{FieldType}
+use Rattle.flow.proofs.Stepped.{Stepped, stepped}
 use Rattle.judge.specs.File.{judged, refused}
 use Rattle.judge.specs.File as judge
 use Rattle.value.specs.Value.{valued}
@@ -47,6 +48,7 @@ pub data Said : Type 0 where
   ofValue : value.Reply → Said
   ofField : field.Reply → Said
   ofSum : ℕ → Said
+  ofStep : Stepped → Said
 
 -- a call, and after it what document 01 says
 pub data Case : Type 0 where
@@ -62,6 +64,8 @@ pub data Case : Type 0 where
   ofType : FieldType → Marked → String → field.Reply → Case
   -- bytes
   summing : List ℕ → ℕ → Case
+  -- a flow, and kinds end to end
+  stepping : String → String → Stepped → Case
 
 -- the answer of the writer or the sheet reader, and the lent output after it
 abbrev pub transferred : Transfer → List ℕ → List ℕ → Said
@@ -75,6 +79,7 @@ given (reading flow f old r new) = transferred (readTo (bytes flow) f (length ol
 given (asking flow f n k r) = ofValue (valued (bytes flow) f n k)
 given (ofType t m s r) = ofField (fieldJudged t m (bytes s))
 given (summing s n) = ofSum (checksumOf s)
+given (stepping flow kinds r) = ofStep (stepped (bytes flow) (bytes kinds))
 
 -- the answer by document 01
 unfoldable pub expected : Case → Said
@@ -84,6 +89,7 @@ expected (reading flow f old r new) = ofSheet r new
 expected (asking flow f n k r) = ofValue r
 expected (ofType t m s r) = ofField r
 expected (summing s n) = ofSum n
+expected (stepping flow kinds r) = ofStep r
 
 -- all of some cases are answered as document 01 says
 abbrev pub Right : List Case → Type 0

@@ -1,5 +1,6 @@
 pub mod Cases
 pub mod Refusals
+pub mod Steps
 pub mod Limits
 pub mod Sheets
 pub mod P0012
