@@ -9,3 +9,4 @@ pub mod Demand3
 pub mod Answers
 pub mod OneStep
 pub mod Examples
+pub mod Stepped

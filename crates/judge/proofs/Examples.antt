@@ -4,6 +4,7 @@ use Prim.Native.String.{String}
 use mathlib.Core.Path.{_≡_, refl}
 use lib.IntN.{pos}
 use mathlib.Core.List.{List, [], _∷_, _++_, map}
+use lib.ListN.{length}
 use Rattle.text.specs.Characters.{bytes, isDigit, isText}
 use Rattle.record.specs.Records.{joined, onto, records, fields, field, bar as barOf, barred}
 use Rattle.checksum.specs.Checksum.{words, addRecord, checksum}
@@ -25,23 +26,27 @@ use Rattle.judge.specs.File.{checkedFrom, ended, judgedBy, verdict, judg
 abbrev lines : List String → List ℕ
 lines ls = joined (map bytes ls)
 
--- what is said of a file, or of a field
+-- what is said of a file's bytes, of a file, or of a field
 pub data Said : Type 0 where
+  ofBytes : ℕ → Said
   ofFile : Reply → Said
   ofField : FieldReply → Said
 
--- a file for a flow, or a field of a type, and what document 01 says of it
+-- how many bytes a file has, a file for a flow, or a field of a type, and what document 01 says of it
 pub data Case : Type 0 where
+  size : List ℕ → ℕ → Case
   file : List ℕ → List ℕ → Reply → Case
   aField : FieldType → String → FieldReply → Case
 
 pub given : List Case → List Said
 given [] = []
+given (size f n ∷ cs) = ofBytes (length f) ∷ given cs
 given (file flow f r ∷ cs) = ofFile (judged flow f) ∷ given cs
 given (aField t s r ∷ cs) = ofField (fieldJudged t bare (bytes s)) ∷ given cs
 
 pub expected : List Case → List Said
 expected [] = []
+expected (size f n ∷ cs) = ofBytes n ∷ expected cs
 expected (file flow f r ∷ cs) = ofFile r ∷ expected cs
 expected (aField t s r ∷ cs) = ofField r ∷ expected cs
 
@@ -51,8 +56,9 @@ head = "ZHD|P0138001|G|SVAA|Z|POOL|20240105120000"
 
 pub table : List Case
 table =
-    -- the example
-    file P0138001 (lines (head ∷ "SUB|B|||20231231|M" ∷ "TA2|1.0250" ∷ "ZPT|4|812996689" ∷ [])) (accepted 4)
+    -- the example has 88 bytes, and is accepted
+    size (lines (head ∷ "SUB|B|||20231231|M" ∷ "TA2|1.0250" ∷ "ZPT|4|812996689" ∷ [])) 88
+    ∷ file P0138001 (lines (head ∷ "SUB|B|||20231231|M" ∷ "TA2|1.0250" ∷ "ZPT|4|812996689" ∷ [])) (accepted 4)
     -- its last line feed cut off
     ∷ file P0138001 (lines (head ∷ "SUB|B|||20231231|M" ∷ "TA2|1.0250" ∷ []) ++ bytes "ZPT|4|812996689") (accepted 4)
     -- checksum 812996688

@@ -4,3 +4,4 @@ pub mod Digits
 pub mod OnePass
 pub mod ByValue
 pub mod Spelling
+pub mod Examples

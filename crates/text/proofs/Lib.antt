@@ -6,3 +6,4 @@ pub mod Ors
 pub mod Classes
 pub mod Orders
 pub mod Parts
+pub mod Examples

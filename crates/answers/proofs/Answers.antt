@@ -1,0 +1,55 @@
+-- Document 01's answers as one table under one theorem: each refusal, each pair of neighbours in the order, the limits, the sheets,
+-- the steps, and of each flow every field. Where a definition and the code behind it misread the paper alike, the proofs of the other crates
+-- hold and this one fails. Assumes nothing.
+use mathlib.Core.Path.{refl}
+use mathlib.Core.List.{List, _++_}
+use Rattle.text.specs.Characters.{isDigit, isText}
+use Rattle.record.specs.Records.{joined, onto, records, fields, field, extent, bar as barOf, barred, holds}
+use Rattle.checksum.specs.Checksum.{words, addRecord, checksum, checksumOf}
+use Rattle.number.specs.Numbers.{minus, unsigned, plain, intForm, intValue, decForm, decValue, spelled, decimalIn, decimal}
+use Rattle.number.specs.Calendar.{leap, daysIn, isDay, isDate, isTime}
+use Rattle.field.specs.Types.{textForm, bolForm, periodRange, form, range, valueOf, widthRight}
+use Rattle.field.specs.Judge.{filled, fieldAnswer, judgedAs, fieldJudged}
+use Rattle.field.specs.Keys.{keyOrder}
+use Rattle.text.specs.Order.{numberOrder, textOrder}
+use Rattle.number.specs.Order.{digitsOrder, wholeOrder}
+use Rattle.layout.specs.Layout.{among, find}
+use Rattle.flow.specs.Flows.{flowNumber}
+use Rattle.flow.specs.ByTable.{followersFrom}
+use Rattle.flow.specs.Step.{kindsIn}
+use Rattle.flow.proofs.Stepped.{stepped}
+use Rattle.fault.specs.Fields.{fieldFault, fieldsFault}
+use Rattle.fault.specs.Record.{placeFault, shapeFault, keyFault, footerFault, kindFault}
+use Rattle.judge.specs.Record.{lastKind, keyWith, keyBefore, fault}
+use Rattle.judge.specs.File.{checkedFrom, ended, judgedBy, verdict, judged}
+use Rattle.value.specs.Value.{isThere, placeOf, fieldValue, valueBy, valueIn, valued}
+use Rattle.sheet.specs.Sheets.{turned, footer, made, barLine, butLast, sheetOf}
+use Rattle.sheet.specs.Write.{written}
+use Rattle.sheet.specs.Read.{readTo}
+use Rattle.answers.proofs.Cases.{copies, Case, given, expected, Right, both-right, behind}
+use Rattle.answers.proofs.Refusals.{refusals, neighbours}
+use Rattle.answers.proofs.Steps.{steps}
+use Rattle.answers.proofs.Limits.{limits, limits-right}
+use Rattle.answers.proofs.Sheets.{sheets, sheets-right}
+use Rattle.answers.proofs.P0012.{p0012}
+use Rattle.answers.proofs.P0181.{p0181}
+use Rattle.answers.proofs.P0133.{p0133}
+use Rattle.answers.proofs.P0134.{p0134}
+use Rattle.answers.proofs.P0138.{p0138}
+use Rattle.answers.proofs.P0164.{p0164}
+
+-- the cases that are computed; where they fail, fewer of them at a time show which
+unfoldable pub computed : List Case
+computed = refusals ++ neighbours ++ steps ++ p0012 ++ p0181 ++ p0133 ++ p0134 ++ p0138 ++ p0164
+
+computed-right : Right computed
+unfolding computed refusals neighbours steps p0012 p0181 p0133 p0134 p0138 p0164 copies given expected behind joined onto records fields field extent barOf barred holds words addRecord checksum checksumOf minus unsigned plain intForm intValue decForm decValue spelled decimalIn decimal leap daysIn isDay isDate isTime textForm bolForm periodRange form range valueOf widthRight filled fieldAnswer judgedAs fieldJudged keyOrder numberOrder textOrder digitsOrder wholeOrder among find flowNumber isDigit isText fieldFault fieldsFault lastKind keyWith keyBefore placeFault shapeFault keyFault footerFault kindFault fault checkedFrom ended judgedBy verdict judged isThere placeOf fieldValue valueBy valueIn valued turned footer made barLine butLast sheetOf written readTo kindsIn followersFrom stepped
+computed-right = refl
+
+unfoldable pub table : List Case
+table = limits ++ sheets ++ computed
+
+-- each is answered as document 01 says
+pub answers-right : Right table
+unfolding table
+answers-right = both-right (limits ++ sheets) computed (both-right limits sheets limits-right sheets-right) computed-right

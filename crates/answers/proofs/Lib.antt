@@ -1,0 +1,12 @@
+pub mod Cases
+pub mod Refusals
+pub mod Steps
+pub mod Limits
+pub mod Sheets
+pub mod P0012
+pub mod P0181
+pub mod P0133
+pub mod P0134
+pub mod P0138
+pub mod P0164
+pub mod Answers

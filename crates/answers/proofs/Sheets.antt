@@ -1,0 +1,125 @@
+-- Sheets whose made file is judged: taken, refused as the reader would refuse the made file, or too long for the lent output
+-- (document 01, "Sheets"). The digits of a footer are not computed but read back from the text. Assumes nothing.
+use Prim.Native.Nat.{ℕ, _+_}
+use Prim.Native.String.{String}
+use mathlib.Core.Path.{_≡_, refl, sym}
+use mathlib.Core.Bool.{true, false}
+use mathlib.Core.List.{List, [], _∷_, _++_}
+use lib.Dec.{leb}
+use lib.ListN.{length}
+use Rattle.text.specs.Characters.{bytes, isDigit, isText}
+use Rattle.record.specs.Records.{onto, records, fields, field, bar as barOf, barred, holds}
+use Rattle.checksum.specs.Checksum.{words, addRecord, checksum, checksumOf}
+use Rattle.number.specs.Numbers.{minus, unsigned, plain, intForm, intValue, decForm, decValue, spelled, decimal}
+use Rattle.number.specs.Calendar.{leap, daysIn, isDay, isDate, isTime}
+use Rattle.number.proofs.Spelling.{spelled-is}
+use Rattle.field.specs.Types.{textForm, form, range, valueOf}
+use Rattle.field.specs.Judge.{filled, fieldAnswer}
+use Rattle.layout.specs.Layout.{among, find}
+use Rattle.flow.specs.Flows.{flowNumber, held}
+use Rattle.fault.specs.Fields.{fieldFault, fieldsFault}
+use Rattle.fault.specs.Record.{placeFault, shapeFault, keyFault, footerFault, kindFault}
+use Rattle.judge.specs.Record.{lastKind, keyWith, keyBefore, fault}
+use Rattle.judge.specs.File.{checkedFrom, ended, judgedBy, verdict}
+use Rattle.judge.specs.declared.Verdict.{Verdict}
+use Rattle.judge.specs.declared.Verdict.the-variants.{Accepted, Refused}
+use Rattle.sheet.specs.Sheets.{tab, turned, footer, made}
+use Rattle.sheet.specs.Write.{linesEnded, asJudged, fitted, written, done, refused}
+use Rattle.answers.proofs.Cases.{lines, copies, Case, writing, transferred, given, expected, Right}
+
+-- a made file, whose footer is spelled by some digits
+module _ (sheet : List ℕ) (count sum : String) where
+  made-is :
+      spelled (length (records sheet) + 1) (bytes count) ≡ true
+      → spelled (checksumOf (turned tab 0x7C sheet)) (bytes sum) ≡ true
+      → made sheet ≡ turned tab 0x7C sheet ++ (bytes "ZPT" ++ 0x7C ∷ (bytes count ++ 0x7C ∷ bytes sum)) ++ 0x0A ∷ []
+  unfolding made footer
+  made-is c s =
+      rw (sym (spelled-is (length (records sheet) + 1) (bytes count) c), sym (spelled-is (checksumOf (turned tab 0x7C sheet)) (bytes sum) s))
+      refl
+
+-- the example of document 01, and its sheet
+abbrev example : List ℕ
+example = lines ("ZHD|P0138001|G|SVAA|Z|POOL|20240105120000" ∷ "SUB|B|||20231231|M" ∷ "TA2|1.0250" ∷ "ZPT|4|812996689" ∷ [])
+
+abbrev sheet : List ℕ
+sheet = lines ("ZHD\tP0138001\tG\tSVAA\tZ\tPOOL\t20240105120000" ∷ "SUB\tB\t\t\t20231231\tM" ∷ "TA2\t1.0250" ∷ [])
+
+example-made : made sheet ≡ example
+unfolding turned onto records words addRecord checksum checksumOf spelled plain isDigit
+example-made = made-is sheet "4" "812996689" refl refl
+
+-- a sheet with a fixed value that differs
+abbrev fixedSheet : List ℕ
+fixedSheet = lines ("ZHD\tP0138001\tG\tSVAA\tZ\tPOOL\t20240105120000" ∷ "SUB\tC\t\t\t20231231\tM" ∷ "TA2\t1.0250" ∷ [])
+
+abbrev fixedFile : List ℕ
+fixedFile = lines ("ZHD|P0138001|G|SVAA|Z|POOL|20240105120000" ∷ "SUB|C|||20231231|M" ∷ "TA2|1.0250" ∷ "ZPT|4|829773905" ∷ [])
+
+fixed-made : made fixedSheet ≡ fixedFile
+unfolding turned onto records words addRecord checksum checksumOf spelled plain isDigit
+fixed-made = made-is fixedSheet "4" "829773905" refl refl
+
+-- a sheet that has a ZPT line
+abbrev footedSheet : List ℕ
+footedSheet = sheet ++ lines ("ZPT\t4\t812996689" ∷ [])
+
+abbrev footedFile : List ℕ
+footedFile = example ++ lines ("ZPT|5|1515729962" ∷ [])
+
+footed-made : made footedSheet ≡ footedFile
+unfolding turned onto records words addRecord checksum checksumOf spelled plain isDigit
+footed-made = made-is footedSheet "5" "1515729962" refl refl
+
+unfoldable pub sheets : List Case
+sheets =
+    -- records and bytes written; bytes past them are kept
+    writing "P0138001" sheet (copies 88 120) (done 4 88) example
+    ∷ writing "P0138001" sheet (copies 90 120) (done 4 88) (example ++ bytes "xx")
+    -- 17 output too short for the result
+    ∷ writing "P0138001" sheet (copies 87 120) (refused 17 0 0) (copies 87 120)
+    -- the reader's 10, and 10 and 17
+    ∷ writing "P0138001" fixedSheet (copies 88 120) (refused 10 2 2) (copies 88 120)
+    ∷ writing "P0138001" fixedSheet [] (refused 10 2 2) []
+    -- the reader's 5: the made footer stands behind a ZPT
+    ∷ writing "P0138001" footedSheet (copies 110 120) (refused 5 5 1) (copies 110 120)
+    ∷ []
+
+-- a sheet that is none of 1, 2, 16 and 15 is judged as its made file
+module _ (name sheet f old : List ℕ) (v : Verdict) where
+  as-made :
+      held name ≡ true
+      → leb (length sheet) 1048000 ≡ true
+      → holds 0x7C sheet ≡ false
+      → linesEnded sheet ≡ true
+      → made sheet ≡ f
+      → verdict name f ≡ v
+      → transferred (written name sheet (length old)) (made sheet) old ≡ transferred (asJudged v (fitted (length old) f)) f old
+  unfolding written
+  as-made a b c d e j = rw (a, b, c, d, e, j) refl
+
+-- what the reader says of the made files
+example-judged : verdict (bytes "P0138001") example ≡ Accepted 4
+unfolding copies onto records fields field barOf barred words addRecord checksum minus unsigned plain intForm intValue decForm decValue spelled leap daysIn isDay isDate isTime textForm form range valueOf filled fieldAnswer among find flowNumber isDigit isText fieldFault fieldsFault lastKind keyWith keyBefore placeFault shapeFault keyFault footerFault kindFault fault checkedFrom ended judgedBy verdict
+example-judged = refl
+
+fixed-judged : verdict (bytes "P0138001") fixedFile ≡ Refused 10 2 2
+unfolding copies onto records fields field barOf barred words addRecord checksum minus unsigned plain intForm intValue decForm decValue spelled leap daysIn isDay isDate isTime textForm form range valueOf filled fieldAnswer among find flowNumber isDigit isText fieldFault fieldsFault lastKind keyWith keyBefore placeFault shapeFault keyFault footerFault kindFault fault checkedFrom ended judgedBy verdict
+fixed-judged = refl
+
+footed-judged : verdict (bytes "P0138001") footedFile ≡ Refused 5 5 1
+unfolding copies onto records fields field barOf barred words addRecord checksum minus unsigned plain intForm intValue decForm decValue spelled leap daysIn isDay isDate isTime textForm form range valueOf filled fieldAnswer among find flowNumber isDigit isText fieldFault fieldsFault lastKind keyWith keyBefore placeFault shapeFault keyFault footerFault kindFault fault checkedFrom ended judgedBy verdict
+footed-judged = refl
+
+-- each is answered as document 01 says
+pub sheets-right : Right sheets
+unfolding given expected sheets copies flowNumber holds
+sheets-right =
+    λ i.
+    as-made (bytes "P0138001") sheet example (copies 88 120) (Accepted 4) refl refl refl refl example-made example-judged i
+    ∷ as-made (bytes "P0138001") sheet example (copies 90 120) (Accepted 4) refl refl refl refl example-made example-judged i
+    ∷ as-made (bytes "P0138001") sheet example (copies 87 120) (Accepted 4) refl refl refl refl example-made example-judged i
+    ∷ as-made (bytes "P0138001") fixedSheet fixedFile (copies 88 120) (Refused 10 2 2) refl refl refl refl fixed-made fixed-judged i
+    ∷ as-made (bytes "P0138001") fixedSheet fixedFile [] (Refused 10 2 2) refl refl refl refl fixed-made fixed-judged i
+    ∷ as-made (bytes "P0138001") footedSheet footedFile (copies 110 120) (Refused 5 5 1) refl refl refl refl footed-made footed-judged i
+    ∷ []
