@@ -1,7 +1,6 @@
 -- Files and sheets of just their limit and one byte more (document 01, refusal 2), with its neighbours 1, 3 and 16. Lists so long are
 -- not computed: only their length is used, and a law gives it. Assumes nothing.
 use Prim.Native.Nat.{ℕ}
-use Prim.Native.String.{String}
 use mathlib.Core.Path.{_≡_, refl}
 use mathlib.Core.List.{List, [], _∷_}
 use lib.ListN.{length}
@@ -19,7 +18,7 @@ use Rattle.sheet.specs.Write as ofSheet
 use Rattle.sheet.specs.Read.{readTo}
 use Rattle.answers.proofs.Cases.{copies, copies-length, Case, judging, writing, reading, asking, given, expected, Right}
 
--- feeds, a letter or bars over a file's limit; bytes that fill a file up to its limit; and so of a sheet
+-- feeds and letters are one byte over a file's limit, and rest fills a file up to it; sheetFeeds, bars and sheetRest are so of a sheet
 unfoldable pub limitsOf : List ℕ → List ℕ → List ℕ → List ℕ → List ℕ → List ℕ → List Case
 limitsOf feeds letters rest sheetFeeds bars sheetRest =
     -- 2 file or sheet over its limit
@@ -50,6 +49,7 @@ module _ (feeds letters rest sheetFeeds bars sheetRest : List ℕ) where
   unfolding given expected limitsOf onto records fields field holds find flowNumber placeFault kindFault fault checkedFrom judgedBy verdict judged valueIn valued barLine written readTo
   by-length a b c d e f = rw (a, b, c, d, e, f) refl
 
+-- with line feeds, letters and bars
 unfoldable pub limits : List Case
 limits = limitsOf (copies 1048577 0x0A) (copies 1048577 0x41) (copies 1048575 0x0A) (copies 1048001 0x0A) (copies 1048001 0x7C) (copies 1047998 0x0A)
 

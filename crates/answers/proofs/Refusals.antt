@@ -168,7 +168,7 @@ refusals =
 -- neighbours in the order: a call with both faults has the first
 unfoldable pub neighbours : List Case
 neighbours =
-    -- 3 and 4, also in a later record; 3 in a record behind 8 in one before
+    -- 3 and 4; 8 in a record and 3 in the one behind it
     judging "P0138001" (copies 513 65) (refused 3 1 0)
     ∷ judging "P0138001" (lines (zhd ∷ "SUB|B|||2023123A|M" ∷ []) ++ copies 513 65) (refused 8 2 5)
     -- 4 and 5

@@ -10,7 +10,7 @@ use lib.ListN.{length}
 use Rattle.text.specs.Characters.{bytes, isDigit, isText}
 use Rattle.record.specs.Records.{onto, records, fields, field, bar as barOf, barred, holds}
 use Rattle.checksum.specs.Checksum.{words, addRecord, checksum, checksumOf}
-use Rattle.number.specs.Numbers.{minus, unsigned, plain, intForm, intValue, decForm, decValue, spelled, decimal}
+use Rattle.number.specs.Numbers.{minus, unsigned, plain, intForm, intValue, decForm, decValue, spelled}
 use Rattle.number.specs.Calendar.{leap, daysIn, isDay, isDate, isTime}
 use Rattle.number.proofs.Spelling.{spelled-is}
 use Rattle.field.specs.Types.{textForm, form, range, valueOf}
