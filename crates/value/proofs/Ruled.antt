@@ -4,7 +4,7 @@ use mathlib.Core.Path.{_≡_, refl, sym, ap, _∙_}
 use mathlib.Core.Bool.{Bool, true, false, _&&_}
 use mathlib.Core.List.{List}
 use native.Mathlib.Omega.{arith}
-use lib.ListN.{length, take, drop, List·getD-eq-default}
+use lib.ListN.{length, take, drop}
 use borrow.Author.Tests.{le-leb, lt-leb, eq-eqb, ne-eqb}
 use Rattle.text.specs.Rules.{must}
 use Rattle.text.specs.Characters.{from-to}
@@ -17,9 +17,9 @@ use Rattle.field.specs.declared.FieldType.{FieldType}
 use Rattle.field.specs.declared.FieldType.the-variants as types
 use Rattle.field.specs.declared.FieldAnswer.{FieldAnswer}
 use Rattle.field.specs.declared.Mark.{Mark}
-use Rattle.layout.specs.Layout.{Rule, Layout, row}
+use Rattle.layout.specs.Layout.{Rule, noRule, Layout}
 use Rattle.layout.specs.Numbers.{word, typeOf, fixedOf, ruleOf, layoutOf, RulesOf}
-use Rattle.layout.proofs.FieldRules.{rules-length, rule-at, type-is}
+use Rattle.layout.proofs.FieldRules.{rule-at, rule-past, type-is}
 use Rattle.fault.specs.Record.{kindOf}
 use Rattle.judge.specs.File.{bar}
 use Rattle.value.specs.Value.{recordAt, isThere, placeOf, ruleFor, byRule, asValue, fieldValue, valueBy}
@@ -29,9 +29,6 @@ use Rattle.value.specs.declared.Value.the-variants.{Refused, Text}
 
 -- field k of a record of kind j, whose m rules stand at p
 module _ (t fixed : List ℕ) (j p m : ℕ) (rules : RulesOf t fixed j p m) (k : ℕ) (s : List ℕ) where
-  abbrev none : Rule
-  none = record { type = types.Null; mark = bare }
-
   pub ruled : k - 2 < m → (mark : Mark) {type : FieldType} {value : List ℕ} {a : FieldAnswer}
       → type ≡ typeOf (word t (p + 3 * (k - 2))) → marked mark (fixedOf t fixed (p + 3 * (k - 2))) ≡ ruleOf t fixed (p + 3 * (k - 2)) .mark
       → value ≡ fixedOf t fixed (p + 3 * (k - 2)) → a ≡ fieldAnswer type (marked mark value) s
@@ -39,13 +36,11 @@ module _ (t fixed : List ℕ) (j p m : ℕ) (rules : RulesOf t fixed j p m) (k :
   ruled h mark ty mk v is =
       let q = ty ∙ type-is t fixed (p + 3 * (k - 2)) in
       let w = ap (marked mark) v ∙ mk in
-      is ∙ (λ i. fieldAnswer (q i) (w i) s) ∙ sym (ap (λ (r : Rule). byRule r s) (rule-at t fixed j p m rules none (k - 2) h))
+      is ∙ (λ i. fieldAnswer (q i) (w i) s) ∙ sym (ap (λ (r : Rule). byRule r s) (rule-at t fixed j p m rules noRule (k - 2) h))
 
   -- past the rules, null's
   pub unruled : m ≤ k - 2 → {a : FieldAnswer} → a ≡ fieldAnswer types.Null bare s → a ≡ byRule (ruleFor (layoutOf t fixed) j k) s
-  unruled h is =
-      let past : length (row (layoutOf t fixed) j .rules) ≤ k - 2 = omega (arith, rules-length t fixed j p m rules) in
-      is ∙ sym (ap (λ (r : Rule). byRule r s) (List·getD-eq-default (row (layoutOf t fixed) j .rules) none {n = k - 2} past))
+  unruled h is = is ∙ sym (ap (λ (r : Rule). byRule r s) (rule-past t fixed j p m rules noRule (k - 2) h))
 
 -- a number from 1 to n, and one that is 0 or above n
 counts : (n k : ℕ) → 1 ≤ k → k ≤ n → from-to 1 n k ≡ true

@@ -8,11 +8,10 @@ use lib.ListN.{length, getD, take, drop}
 use Rattle.text.specs.Rules.{must}
 use Rattle.text.specs.Characters.{from-to}
 use Rattle.record.specs.Records.{records, fields, field, extent}
-use Rattle.field.specs.Judge.{bare, fieldAnswer}
+use Rattle.field.specs.Judge.{fieldAnswer}
 use Rattle.field.specs.declared.FieldAnswer.{FieldAnswer}
 use Rattle.field.specs.declared.FieldAnswer.the-variants as answers
-use Rattle.field.specs.declared.FieldType.the-variants as types
-use Rattle.layout.specs.Layout.{Layout, Rule, row}
+use Rattle.layout.specs.Layout.{Layout, Rule, noRule, row}
 use Rattle.flow.specs.Publication.{layoutFor}
 use Rattle.flow.specs.Flows.{flowNamed}
 use Rattle.fault.specs.Record.{kindOf}
@@ -40,7 +39,7 @@ textAt f n k = Text (placeOf f n k) (placeOf f n k + length (field bar k (record
 
 -- the rule of field k, counted from 1, in a record of kind j
 abbrev pub ruleFor : Layout → ℕ → ℕ → Rule
-ruleFor l j k = getD (row l j .rules) (k - 2) (record { type = types.Null; mark = bare })
+ruleFor l j k = getD (row l j .rules) (k - 2) noRule
 
 -- the answer of a field's bytes by a rule
 abbrev pub byRule : Rule → List ℕ → FieldAnswer
