@@ -22,8 +22,7 @@ use Rattle.layout.specs.Numbers.{word, typeOf, fixedOf, ruleOf, layoutOf, Rules
 use Rattle.layout.proofs.FieldRules.{rule-at, rule-past, type-is}
 use Rattle.fault.specs.Record.{kindOf}
 use Rattle.judge.specs.File.{bar}
-use Rattle.value.specs.Value.{recordAt, isThere, placeOf, ruleFor, byRule, asValue, fieldValue, valueBy}
-use Rattle.value.specs.Code.{Placed}
+use Rattle.value.specs.Value.{recordAt, isThere, placeOf, endOf, ruleFor, byRule, asValue, fieldValue, valueBy}
 use Rattle.value.specs.declared.Value.{Value}
 use Rattle.value.specs.declared.Value.the-variants.{Refused, Text}
 
@@ -86,15 +85,14 @@ module _ (l : Layout) (f : List ℕ) (n k : ℕ) where
       bytes-are : s ≡ field bar k (recordAt f n)
       bytes-are = field-stands bar k r y .is ∙ ap (field bar k) (x .is .is)
 
-      pub placed : Placed f n k (start + a) (start + e)
+      placed : (start + a ≡ placeOf f n k) × (start + e ≡ endOf f n k)
       unfolding placeOf
       placed =
           let q : a ≡ extent (take (k - 1) (fields bar (recordAt f n))) =
-          y .starts ∙ ap (λ (u : List ℕ). extent (take (k - 1) (fields bar u))) (x .is .is) in
-          record {
-            starts = omega (arith, x .starts, q);
-            ends = omega (arith, x .starts, q, y .is .ordered, part-length r a e (y .is .ordered) (y .is .within), ap length bytes-are);
-          }
+          y .starts ∙ ap (λ (u : List ℕ). extent (take (k - 1) (fields bar u))) (x .is .is) in (
+            omega (arith, x .starts, q),
+            omega (arith, x .starts, q, y .is .ordered, part-length r a e (y .is .ordered) (y .is .within), ap length bytes-are),
+          )
 
       found : valueBy l f n k ≡ fieldValue l f n k
       unfolding valueBy
@@ -103,12 +101,12 @@ module _ (l : Layout) (f : List ℕ) (n k : ℕ) where
       -- a kind
       pub kind-value : k ≡ 1 → Text (start + a) (start + e) ≡ valueBy l f n k
       unfolding fieldValue
-      kind-value z = (λ i. Text (placed .starts i) (placed .ends i)) ∙ sym (found ∙ rw (eq-eqb k 1 z))
+      kind-value z = (λ i. Text (placed .0 i) (placed .1 i)) ∙ sym (found ∙ rw (eq-eqb k 1 z))
 
       -- any other field
       pub ruled-value : (k ≡ 1 → ⊥) → {j : ℕ} {answer : FieldAnswer} {v : Value} → j ≡ kindOf bar l r → answer ≡ byRule (ruleFor l j k) s
-          → v ≡ asValue f n k answer → v ≡ valueBy l f n k
+          → v ≡ asValue n k (start + a) (start + e) answer → v ≡ valueBy l f n k
       unfolding fieldValue
       ruled-value z kind is v =
           let j = kind ∙ ap (kindOf bar l) (x .is .is) in
-          v ∙ ap (asValue f n k) (is ∙ (λ i. byRule (ruleFor l (j i) k) (bytes-are i))) ∙ sym (found ∙ rw (ne-eqb k 1 z))
+          v ∙ (λ i. asValue n k (placed .0 i) (placed .1 i) ((is ∙ (λ i. byRule (ruleFor l (j i) k) (bytes-are i))) i)) ∙ sym (found ∙ rw (ne-eqb k 1 z))
