@@ -2,15 +2,13 @@
 use Prim.Native.Nat.{ℕ, _+_, _-_, _*_, _≤_, _<_}
 use mathlib.Core.Path.{_≡_, sym, ap, _∙_}
 use mathlib.Core.List.{List, []}
-use native.Mathlib.Omega.{arith}
-use lib.ListN.{length, getD, take, drop, List·getD-eq-default}
+use lib.ListN.{getD, take, drop}
 use borrow.Author.Tests.{lt-ltb, le-ltb}
-use Rattle.field.specs.Judge.{bare}
 use Rattle.field.specs.declared.FieldType.{FieldType}
 use Rattle.field.specs.declared.FieldType.the-variants as types
-use Rattle.layout.specs.Layout.{Rule, Layout, row}
+use Rattle.layout.specs.Layout.{Rule, noRule, Layout, row}
 use Rattle.layout.specs.Numbers.{word, typeOf, layoutOf, RulesOf}
-use Rattle.layout.proofs.FieldRules.{rules-length, rule-at, type-is}
+use Rattle.layout.proofs.FieldRules.{rule-at, rule-past, type-is}
 use Rattle.fault.specs.Record.{keyType}
 use Rattle.fault.specs.Code.{keyInSlots}
 
@@ -24,17 +22,12 @@ module _ (l : Layout) (file slots : List ℕ) (k : ℕ) {h n : ℕ} (head : h �
 
 -- the key's type is that of its rule, f places on; null where there is no such rule
 module _ (t fixed : List ℕ) (k p n : ℕ) (rules : RulesOf t fixed k p n) {f : ℕ} (place : f ≡ row (layoutOf t fixed) k .key - 2) where
-  abbrev none : Rule
-  none = record { type = types.Null; mark = bare }
-
   abbrev found : ℕ → FieldType
-  found j = getD (row (layoutOf t fixed) k .rules) j none .type
+  found j = getD (row (layoutOf t fixed) k .rules) j noRule .type
 
   pub key-ruled : f < n → {type : FieldType} → type ≡ typeOf (word t (p + 3 * f)) → type ≡ keyType (layoutOf t fixed) k
   key-ruled h is =
-      is ∙ type-is t fixed (p + 3 * f) ∙ sym (ap (λ (r : Rule). r .type) (rule-at t fixed k p n rules none f h)) ∙ ap found place
+      is ∙ type-is t fixed (p + 3 * f) ∙ sym (ap (λ (r : Rule). r .type) (rule-at t fixed k p n rules noRule f h)) ∙ ap found place
 
   pub key-unruled : n ≤ f → types.Null ≡ keyType (layoutOf t fixed) k
-  key-unruled h =
-      let past : length (row (layoutOf t fixed) k .rules) ≤ f = omega (arith, rules-length t fixed k p n rules) in
-      sym (ap (λ (r : Rule). r .type) (List·getD-eq-default (row (layoutOf t fixed) k .rules) none {n = f} past)) ∙ ap found place
+  key-unruled h = sym (ap (λ (r : Rule). r .type) (rule-past t fixed k p n rules noRule f h)) ∙ ap found place

@@ -10,11 +10,9 @@ use Rattle.text.specs.declared.Order.{Order}
 use Rattle.text.specs.declared.Order.the-variants.{Below, Equal, Above}
 use Rattle.record.specs.Records.{fields, field}
 use Rattle.number.specs.Numbers.{spelled}
-use Rattle.field.specs.Judge.{bare}
 use Rattle.field.specs.Keys.{keyOrder}
 use Rattle.field.specs.declared.FieldType.{FieldType}
-use Rattle.field.specs.declared.FieldType.the-variants as types
-use Rattle.layout.specs.Layout.{Rule, Layout, row, mayFollow, kindNamed, isFooter}
+use Rattle.layout.specs.Layout.{Rule, noRule, Layout, row, mayFollow, kindNamed, isFooter}
 use Rattle.fault.specs.Fields.{also, fieldsFault}
 use Rattle.fault.specs.declared.Check.{Check}
 use Rattle.fault.specs.declared.Check.the-variants.{Fine, Fault}
@@ -29,7 +27,7 @@ keyIn sep l k r = field sep (row l k .key) r
 
 -- the type of a kind's key field
 abbrev pub keyType : Layout → ℕ → FieldType
-keyType l k = (getD (row l k .rules) (row l k .key - 2) (record { type = types.Null; mark = bare })) .type
+keyType l k = getD (row l k .rules) (row l k .key - 2) noRule .type
 
 -- the key before stands below
 abbrev pub isBelow : Order → Bool

@@ -1,12 +1,10 @@
 -- What the walk and the listed followers say is what the step must answer. Assumes nothing.
-use Prim.Native.Nat.{ℕ, zero, suc, _-_}
+use Prim.Native.Nat.{ℕ, suc, _-_}
 use mathlib.Core.Path.{_≡_, refl, sym, ap, _∙_, subst}
-use mathlib.Core.Bool.{Bool, true, false}
+use mathlib.Core.Bool.{Bool, true}
 use mathlib.Core.List.{List}
 use native.Mathlib.Omega.{arith}
-use borrow.Author.Tests.{le-leb, eq-eqb, ne-eqb, eqb-true, eqb-false}
-use lib.Dec.{eqb}
-use lib.ListN.{length}
+use borrow.Author.Tests.{ne-eqb}
 use Rattle.layout.specs.Layout.{mayFollow, isFooter}
 use Rattle.grammar.specs.Right.{ThroughRight}
 use Rattle.grammar.specs.Table.{tableWalk}
@@ -18,7 +16,7 @@ use Rattle.flow.specs.Publication.{Flow, names, layoutFor}
 use Rattle.flow.specs.Flows.{flowAt, flowNumber, held}
 use Rattle.flow.specs.ByTable.{fromOne, walkBy, walkOf, followersBy, followersOf}
 use Rattle.flow.specs.Step.{kindsIn, Lists, StoppedAt, WentThrough, StepRight}
-use Rattle.flow.proofs.Agree.{tables-agree, some-kind, names-are, rows-are}
+use Rattle.flow.proofs.Agree.{tables-agree, some-kind, names-are, footer-is}
 use Rattle.flow.proofs.Demand3.{demand3-stops, demand3-chosen}
 
 -- the walk by the layout's rows is the walk by the flow's table
@@ -34,17 +32,6 @@ through-from : (w : Walked ℕ) (r : ℕ) → walked.Through r ≡ fromOne w →
 through-from (stopped i) r e = absurd (let z : _≡_ {A = ℕ} 0 1 = cc in omega arith)
 through-from (through q) r e = let z : q ≡ r = cc in ap through z
 
--- the footer's row is the last, and a list that comes to it is complete
-eqb-turn : (m n : ℕ) (b : Bool) → eqb m n ≡ b → eqb n m ≡ b
-eqb-turn m n true e = eq-eqb n m (sym (eqb-true m n e))
-eqb-turn m n false e = ne-eqb n m (λ q. eqb-false m n e (sym q))
-
-footer-last : (n r : ℕ) → isFooter (layoutFor (flowAt n)) r ≡ eqb r (length (names (flowAt n .kinds)))
-footer-last n zero = sym (ne-eqb 0 (length (names (flowAt n .kinds))) (λ e. omega (arith, some-kind n)))
-footer-last n (suc j) =
-    let z : length (layoutFor (flowAt n) .rows) - 1 ≡ length (names (flowAt n .kinds)) = omega (arith, rows-are (flowAt n)) in
-    rw (le-leb 1 (suc j) (omega arith), z) (eqb-turn (suc j) (length (names (flowAt n .kinds))) _ refl)
-
 -- flow number n and a list of kinds
 module _ (n : ℕ) (ks : List (List ℕ)) where
   stops-at : (place : ℕ) (old : List ℕ) → walked.Stopped place ≡ walkBy (layoutFor (flowAt n)) ks → StoppedAt (flowAt n) ks place old old
@@ -59,7 +46,7 @@ module _ (n : ℕ) (ks : List (List ℕ)) where
       let w : walkOf (flowAt n) ks ≡ through r = through-from (walkOf (flowAt n) ks) r (e ∙ walk-is (flowAt n) ks) in
       record {
         right =
-            subst (λ (b : Bool). ThroughRight (flowAt n .grammar) ks b) (sym (c ∙ footer-last n r))
+            subst (λ (b : Bool). ThroughRight (flowAt n .grammar) ks b) (sym (c ∙ footer-is (flowAt n) (some-kind n) r))
             (table-through (names (flowAt n .kinds)) (mayFollow (layoutFor (flowAt n))) (flowAt n .grammar) (tables-agree n) ks r w);
         follow = followersOf (flowAt n) r;
         chosen = demand3-chosen n ks r w;

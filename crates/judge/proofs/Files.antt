@@ -1,7 +1,7 @@
 -- What the loop over a file keeps: the state is the summary of the records passed, and the slots say their last keys. Assumes nothing.
 use Prim.Native.Nat.{ℕ, zero, suc, _+_, _-_, _*_, _≤_, _<_, _^_, zero-le}
 use mathlib.Core.Path.{_≡_, refl, sym, ap, _∙_}
-use mathlib.Core.List.{List, [], _∷_, _++_, foldl-append, map, append-nil}
+use mathlib.Core.List.{List, [], _∷_, _++_, foldl-append, map, map-append, append-nil}
 use native.Mathlib.Omega.{arith}
 use lib.Dec.{leb}
 use borrow.Author.Tests.{lt-leb, le-leb}
@@ -39,12 +39,8 @@ module _ (sep : ℕ) (l : Layout) where
   last-snoc (q ∷ []) r = refl
   last-snoc (q ∷ p ∷ rs) r = last-snoc (p ∷ rs) r
 
-  map-snoc : (rs : List (List ℕ)) (r : List ℕ) → map (barred sep) (rs ++ r ∷ []) ≡ map (barred sep) rs ++ barred sep r ∷ []
-  map-snoc [] r = refl
-  map-snoc (q ∷ rs) r = ap (λ (x : List (List ℕ)). barred sep q ∷ x) (map-snoc rs r)
-
   pub sum-snoc : (rs : List (List ℕ)) (r : List ℕ) → sumOf sep (rs ++ r ∷ []) ≡ addRecord (sumOf sep rs) (barred sep r)
-  sum-snoc rs r = ap checksum (map-snoc rs r) ∙ checksum-snoc (map (barred sep) rs) (barred sep r)
+  sum-snoc rs r = ap checksum (map-append (barred sep) rs (r ∷ [])) ∙ checksum-snoc (map (barred sep) rs) (barred sep r)
 
   pub key-snoc : (k : ℕ) (rs : List (List ℕ)) (r : List ℕ) → keyBefore sep l (rs ++ r ∷ []) k ≡ keyWith sep l k (keyBefore sep l rs k) r
   unfolding keyBefore

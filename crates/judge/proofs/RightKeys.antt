@@ -17,6 +17,7 @@ use Rattle.field.specs.Types.{isNull}
 use Rattle.field.specs.Judge.{mayBeEmpty}
 use Rattle.field.specs.Keys.{keyOrder}
 use Rattle.number.proofs.Digits.{and-left, and-right}
+use Rattle.number.proofs.ByValue.{or-right}
 use Rattle.layout.specs.Layout.{KindRow, Layout, row, kindNamed}
 use Rattle.layout.proofs.Names.{found-row}
 use Rattle.grammar.specs.Table.{rowOf}
@@ -155,10 +156,6 @@ pub record Keyed (p : PublishedKind) : Type 0 where
   pub solid : isNull (keyTypeFor p) ≡ false
   pub apart : sameBytes (p .name) (p .within) ≡ false
 
-or-second : (a b : Bool) → (a || b) ≡ true → a ≡ false → b ≡ true
-or-second true b e h = absurd (false≢true (sym h))
-or-second false b e h = e
-
 pub keyed : (p : PublishedKind) → keyFits p ≡ true → (p .key ≡ 0 → ⊥) → Keyed p
 keyed p e h =
     let a = leb 2 (p .key) in
@@ -166,7 +163,7 @@ keyed p e h =
     let c = not (mayBeEmpty (getD (p .fields) (p .key - 2) null .mark)) in
     let d = not (isNull (keyTypeFor p)) in
     let f = not (sameBytes (p .name) (p .within)) in
-    let w : (a && (b && (c && (d && f)))) ≡ true = or-second (eqb (p .key) 0) _ e (ne-eqb _ _ h) in
+    let w : (a && (b && (c && (d && f)))) ≡ true = or-right (eqb (p .key) 0) _ (ne-eqb _ _ h) e in
     let x = and-right a (b && (c && (d && f))) w in
     let y = and-right b (c && (d && f)) x in
     let z = and-right c (d && f) y in
@@ -218,8 +215,8 @@ module _ (fl : Flow) (r : List ℕ) (known : kindOf bar (layoutFor fl) r ≡ 0 �
       let some : eqb (length old) 0 ≡ false =
       ap (λ (o : List ℕ). eqb (length o) 0) (last ∙ ap (λ (j : ℕ). field bar j q) (key-is fl r known)) ∙ key-filled P (keyed P fits hk) q typed in
       let t = must-fine (eqb (row L K .key) 0 || ascending (keyType L K) old (keyIn bar L K r)) 11 (row L K .key) Fine f .0 in
-      let u = or-second (eqb (row L K .key) 0) _ t (ne-eqb _ _ (λ z. hk (sym (key-is fl r known) ∙ z))) in
-      let w = is-below _ (or-second (eqb (length old) 0) _ u some) in
+      let u = or-right (eqb (row L K .key) 0) _ (ne-eqb _ _ (λ z. hk (sym (key-is fl r known) ∙ z))) t in
+      let w = is-below _ (or-right (eqb (length old) 0) _ some u) in
       (λ i. keyOrder (sym (type-is fl r known) i) (field bar (sym (key-is fl r known) i) q) (field bar (sym (key-is fl r known) i) r))
       ∙ ap (λ (o : List ℕ). keyOrder (keyType L K) o (keyIn bar L K r)) (sym last) ∙ w
 

@@ -5,23 +5,22 @@ use mathlib.Core.Bool.{Bool, true, false, cond, not, _&&_, false≢true}
 use mathlib.Core.List.{List, [], _∷_, _++_, map, append-nil}
 use native.Mathlib.Nat.{zero-div}
 use native.Mathlib.Omega.{arith}
-use lib.Dec.{eqb, leb}
+use lib.Dec.{eqb}
 use lib.ListN.{length, getD}
 use lib.Seq.{append-snoc}
-use borrow.Author.Tests.{eqb-true, eqb-false, not-true, le-leb, eq-eqb, ne-eqb}
+use borrow.Author.Tests.{eqb-true, eqb-false, not-true, eq-eqb, ne-eqb}
 use Rattle.text.specs.Order.{sameBytes}
 use Rattle.text.specs.Places.{placeOf}
 use Rattle.text.specs.Rules.{must}
 use Rattle.text.specs.Characters.{from-to}
 use Rattle.text.proofs.Places.{place-name}
-use Rattle.number.proofs.Digits.{and-right}
 use Rattle.layout.specs.Layout.{KindRow, Layout, row, blank, find, kindNamed, among, mayFollow, isFooter}
 use Rattle.grammar.specs.Sets.{Sets, Under}
 use Rattle.grammar.specs.Walk.{Walked, stopped, through, Goes}
 use Rattle.grammar.specs.Table.{rowOf, agrees, tableWalk}
 use Rattle.grammar.proofs.Walks.{never-both, under-completes}
 use Rattle.grammar.proofs.TableWalks.{table-goes-iff, table-complete-iff}
-use Rattle.flow.proofs.Agree.{names-are, rows-are}
+use Rattle.flow.proofs.Agree.{names-are, footer-is}
 use Rattle.flow.specs.Publication.{Flow, PublishedKind, names, rowFor, layoutFor}
 use Rattle.fault.specs.Record.{kindOf}
 use Rattle.judge.specs.Record.{lastKind}
@@ -80,18 +79,6 @@ module _ (fl : Flow) where
 
   pub one-kind : (a b : List ℕ) → kindNamed (layoutFor fl) a ≡ kindNamed (layoutFor fl) b → (kindNamed (layoutFor fl) a ≡ 0 → ⊥) → a ≡ b
   one-kind a b e h = one-name a b (e ∙ kind-row b) h
-
-  -- the footer is the last of the kinds
-  kinds-are : length (layoutFor fl .rows) - 1 ≡ length (names (fl .kinds))
-  kinds-are = omega (arith, rows-are fl)
-
-  pub footer-last : (k : ℕ) → isFooter (layoutFor fl) k ≡ true → k ≡ length (names (fl .kinds))
-  footer-last k e = sym (eqb-true _ _ (and-right (leb 1 k) (eqb (length (layoutFor fl .rows) - 1) k) e)) ∙ kinds-are
-
-  pub last-footer : (k : ℕ) → 1 ≤ length (names (fl .kinds)) → k ≡ length (names (fl .kinds)) → isFooter (layoutFor fl) k ≡ true
-  last-footer k h e =
-      let a : 1 ≤ k = omega arith in
-      rw (le-leb 1 k a) (eq-eqb (length (layoutFor fl .rows) - 1) k (kinds-are ∙ sym e))
 
 -- a record stands where its kind may come
 pub record Placed (l : Layout) (before : List (List ℕ)) (r : List ℕ) : Type 0 where
@@ -153,10 +140,14 @@ module _ (fl : Flow) where
       (through-walk (before ++ x ∷ []) xs (suc i) s (ap (λ (k : ℕ). walked k (suc i) xs) (last-snoc bar l before x) ∙ b .1))
 
   module _ (ok : agrees ns (mayFollow l) (fl .grammar) ≡ true) (some : 1 ≤ length ns) (rs : List (List ℕ)) where
+    -- the footer is the last of the kinds
+    footer-last : (k : ℕ) → isFooter l k ≡ true → k ≡ length ns
+    footer-last k e = eqb-true _ _ (sym (footer-is fl some k) ∙ e)
+
     -- records whose kinds are placed, the last of them the footer, stand under the grammar
     pub placed-under : Each (Placed l) [] rs → isFooter l (lastKind bar l rs) ≡ true → Under (fl .grammar) (map kindIn rs)
     unfolding lastKind
-    placed-under h e = table-complete-iff ns (mayFollow l) (fl .grammar) ok (map kindIn rs) (lastKind bar l rs) (walk-through [] rs 0 h) .0 (footer-last fl _ e)
+    placed-under h e = table-complete-iff ns (mayFollow l) (fl .grammar) ok (map kindIn rs) (lastKind bar l rs) (walk-through [] rs 0 h) .0 (footer-last (lastKind bar l rs) e)
 
     walked-to : Under (fl .grammar) (map kindIn rs) → (s : ℕ) × (tableWalk ns (mayFollow l) 0 0 (map kindIn rs) ≡ through s)
     walked-to u =
@@ -170,8 +161,8 @@ module _ (fl : Flow) where
     pub under-footer : Under (fl .grammar) (map kindIn rs) → isFooter l (lastKind bar l rs) ≡ true
     unfolding lastKind
     under-footer u =
-        last-footer fl _ some
-        (table-complete-iff ns (mayFollow l) (fl .grammar) ok (map kindIn rs) (lastKind bar l rs) (walk-through [] rs 0 (under-placed u)) .1 u)
+        footer-is fl some (lastKind bar l rs)
+        ∙ eq-eqb _ _ (table-complete-iff ns (mayFollow l) (fl .grammar) ok (map kindIn rs) (lastKind bar l rs) (walk-through [] rs 0 (under-placed u)) .1 u)
 
     -- where nothing may follow the footer, it is the last record
     pub footer-ends : row l (length ns) .next ≡ 0 → Under (fl .grammar) (map kindIn rs) → (before : List (List ℕ)) (r : List ℕ) (after : List (List ℕ))
@@ -179,5 +170,5 @@ module _ (fl : Flow) where
     footer-ends z u before r [] e q = refl
     footer-ends z u before r (x ∷ after) e q =
         let p = under-placed u (before ++ r ∷ []) x after (e ∙ sym (append-snoc before r (x ∷ after))) in
-        let w : kindOf bar l r ≡ length ns = footer-last fl _ q in
+        let w : kindOf bar l r ≡ length ns = footer-last (kindOf bar l r) q in
         absurd (none-follows (kindOf bar l x) (sym (ap (λ (k : ℕ). mayFollow l k (kindOf bar l x)) (last-snoc bar l before r ∙ w) ∙ ap (λ (s : ℕ). among (kindOf bar l x) s) z) ∙ p .follows))

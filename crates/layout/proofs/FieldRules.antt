@@ -5,7 +5,8 @@ use mathlib.Core.Bool.{Bool, true, false, cond, _||_}
 use mathlib.Core.List.{List, [], _∷_}
 use native.Mathlib.Nat.{mod-lt}
 use lib.Dec.{eqb, lit<}
-use lib.ListN.{length, getD, drop}
+use native.Mathlib.Omega.{arith}
+use lib.ListN.{length, getD, drop, List·getD-eq-default}
 use borrow.Author.Tests.{ne-eqb}
 use Rattle.text.specs.Order.{sameBytes}
 use Rattle.field.specs.Judge.{Marked, bare, opt, fixed, mayBeEmpty, meetsMark, filled}
@@ -52,6 +53,9 @@ module _ (t bytes : List ℕ) (k p n : ℕ) (r : RulesOf t bytes k p n) where
 
   pub rule-at : (d : Rule) (f : ℕ) → f < n → getD (row (layoutOf t bytes) k .rules) f d ≡ ruleOf t bytes (p + 3 * f)
   rule-at d f h = sym (ap (λ (x : List Rule). getD x f d) (r .are)) ∙ from-at t bytes p n d f h
+
+  pub rule-past : (d : Rule) (f : ℕ) → n ≤ f → getD (row (layoutOf t bytes) k .rules) f d ≡ d
+  rule-past d f h = List·getD-eq-default (row (layoutOf t bytes) k .rules) d {n = f} (omega (arith, rules-length))
 
 -- the type of the rule at p
 module _ (t bytes : List ℕ) (p : ℕ) where

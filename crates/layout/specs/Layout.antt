@@ -6,13 +6,18 @@ use lib.Dec.{eqb, leb}
 use lib.ListN.{length, getD, drop}
 use Rattle.text.specs.Characters.{from-to}
 use Rattle.text.specs.Places.{placeOf}
-use Rattle.field.specs.Judge.{Marked}
+use Rattle.field.specs.Judge.{Marked, bare}
 use Rattle.field.specs.declared.FieldType.{FieldType}
+use Rattle.field.specs.declared.FieldType.the-variants as types
 
 -- the rule of one field: its type, and what stands beside it
 pub record Rule : Type 0 where
   pub type : FieldType
   pub mark : Marked
+
+-- no rule at all: null
+abbrev pub noRule : Rule
+noRule = record { type = types.Null; mark = bare }
 
 -- a kind: its three bytes, the kinds that may follow it (as a set), the rules of its fields from 2 on,
 -- its key field (0: no key), and the kind that heads the set in which the key stands (0: the file)

@@ -83,7 +83,7 @@ lower v (x ∷ d) =
     let here : v * 10 ≤ v * 10 + (x - 48) = omega arith in
     rw (pow-succ', ← mul-assoc) (le-trans (mul-le-mul-right (10 ^ length d) here) (lower (v * 10 + (x - 48)) d))
 
-or-right : (a b : Bool) → a ≡ false → (a || b) ≡ true → b ≡ true
+pub or-right : (a b : Bool) → a ≡ false → (a || b) ≡ true → b ≡ true
 or-right false b e h = h
 or-right true b e h = absurd (false≢true (sym e))
 

@@ -1,3 +1,4 @@
 pub mod Signs
 pub mod Transfers
 pub mod OneStepped
+pub mod FieldValues

@@ -1,5 +1,4 @@
 // The seven public parts under C names. An answer is four numbers in a lent array: include/screen.h says what each cell holds.
-use field::FieldAnswer;
 use field::FieldType;
 use field::Mark;
 use flow::StepAnswer;
@@ -11,7 +10,7 @@ ghost use mathlib.Core.List.{List};
 ghost use Prim.Native.Nat.{ℕ};
 ghost use lib.ListN.{length};
 ghost use Rattle.checksum.specs.Checksum.{checksumOf};
-ghost use Rattle.field.specs.Judge.{marked, paper as fieldPaper};
+ghost use Rattle.field.specs.Judge.{marked};
 ghost use Rattle.field.specs.Codes.{typeCoded, markCoded};
 ghost use Rattle.flow.specs.Step.{paper as stepPaper};
 ghost use Rattle.judge.specs.File.{judged, paper as judgePaper};
@@ -147,19 +146,6 @@ fn mark_coded(code: u32) -> Mark
     }
 }
 
-// What is said of one field's bytes, of which there are `len`.
-fn field_cells(a: FieldAnswer, len: usize) -> [u64; 4]
-    ensures { λ r. ⌜ ((s : List ℕ) → len ≡ length s → r ≡ fieldCells (fieldPaper s a)) ⌝ }
-{
-    match a {
-        FieldAnswer::Refused(number) => [number as u64, 0, 0, 0],
-        FieldAnswer::Empty => [0, 1, 0, 0],
-        FieldAnswer::Number(z) => number_cells(z),
-        FieldAnswer::Truth(b) => [0, 3, flag(b), 0],
-        FieldAnswer::Text => [0, 4, 0, len as u64],
-    }
-}
-
 // Judges one field's bytes against a type and a mark, given as codes. Any number gets an answer.
 #[no_mangle]
 pub extern "C" fn screen_field(
@@ -181,10 +167,8 @@ pub extern "C" fn screen_field(
         *answer = [18, 0, 0, 0];
         return;
     }
-    *answer = field_cells(
-        field::judge(type_coded(kind, p, q), mark_coded(mark), fixed, bytes),
-        bytes.len(),
-    );
+    let a = field::judge(type_coded(kind, p, q), mark_coded(mark), fixed, bytes);
+    *answer = value_cells(value::as_value(a, 0, 0, 0, bytes.len()));
 }
 
 // Takes the checksum of bytes.

@@ -2,7 +2,7 @@
 use Prim.Native.Nat.{ℕ, zero, suc, _+_}
 use mathlib.Core.Path.{_≡_, refl, sym, ap, _∙_}
 use mathlib.Core.Bool.{false}
-use mathlib.Core.List.{List, [], _∷_, _++_, map, foldl, append-nil}
+use mathlib.Core.List.{List, [], _∷_, _++_, map, map-append, foldl, append-nil}
 use lib.ListN.{length, getD, length-append, length-map}
 use lib.Seq.{append-snoc}
 use Rattle.record.specs.Records.{fields, field, barred, holds, someHolds}
@@ -20,10 +20,6 @@ use Rattle.judge.specs.declared.Verdict.{Verdict}
 use Rattle.judge.specs.declared.Verdict.the-variants.{Accepted}
 use Rattle.sheet.specs.Sheets.{tab}
 use Rattle.sheet.proofs.Holding.{none-snoc}
-
-pub map-snoc : (f : List ℕ → List ℕ) (rs : List (List ℕ)) (r : List ℕ) → map f (rs ++ r ∷ []) ≡ map f rs ++ f r ∷ []
-map-snoc f [] r = refl
-map-snoc f (q ∷ rs) r = ap (λ (x : List (List ℕ)). f q ∷ x) (map-snoc f rs r)
 
 -- a line without a bar has the same fields, whichever byte parts them
 module _ (l : Layout) (r : List ℕ) (free : holds bar r ≡ false) where
@@ -91,7 +87,7 @@ module _ (l : Layout) where
   same-checked before (r ∷ lines) h k =
       let p = neither (holds bar r) (someHolds bar lines) k in
       let after : checkedFrom bar l (map (barred tab) before ++ barred tab r ∷ []) (map (barred tab) lines) ≡ checkedFrom tab l (before ++ r ∷ []) lines =
-      ap (λ (x : List (List ℕ)). checkedFrom bar l x (map (barred tab) lines)) (sym (map-snoc (barred tab) before r))
+      ap (λ (x : List (List ℕ)). checkedFrom bar l x (map (barred tab) lines)) (sym (map-append (barred tab) before (r ∷ [])))
       ∙ same-checked (before ++ r ∷ []) lines (none-snoc bar before r h (p .0)) (p .1) in
       rw (length-map before (barred tab), same-fault before r h (p .0), after)
 

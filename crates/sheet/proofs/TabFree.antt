@@ -6,7 +6,7 @@ use mathlib.Core.List.{List, [], _∷_, _++_}
 use native.Mathlib.Omega.{arith}
 use lib.Dec.{eqb, ltb}
 use lib.ListN.{length, getD, take, drop, length-drop}
-use lib.Seq.{split-at}
+use lib.Seq.{split-at, drop-cons}
 use borrow.Author.Tests.{eqb-true, ltb-true}
 use Rattle.text.specs.Characters.{all, isDigit, isText}
 use Rattle.text.specs.Rules.{must}
@@ -144,10 +144,6 @@ typed-free (rule ∷ rules) (x ∷ xs) f e h =
     let p = must-fine (eqb (fieldFault rule x) 0) (fieldFault rule x) f (fieldsFault rules xs (f + 1)) h in
     rw (field-free rule x (eqb-true (fieldFault rule x) 0 (p .0))) (typed-free rules xs (f + 1) (omega arith) (p .1))
 
-parts : (ps : List (List ℕ)) → 0 < length ps → ps ≡ getD ps 0 [] ∷ drop 1 ps
-parts [] h = absurd (omega arith)
-parts (p ∷ ps) h = refl
-
 module _ (l : Layout) (proper : ProperFooter l) where
   -- the first field of a record that passes is its kind's name
   pub kind-name : (before : List (List ℕ)) (r : List ℕ) → FineRecord l before r → row l (kindOf bar l r) .name ≡ field bar 1 r
@@ -161,7 +157,7 @@ module _ (l : Layout) (proper : ProperFooter l) where
       ap (holds tab) (sym (field-number bar 0 r) ∙ sym (kind-name before r p)) ∙ name-free l proper (kindOf bar l r) in
       let many : length (drop 1 fs) ≡ length (row l (kindOf bar l r) .rules) = omega (arith, length-drop 1 fs, p .counted) in
       sym (fields-hold tab bar r (λ e. omega arith))
-      ∙ ap (someHolds tab) (parts fs (fields-some bar r))
+      ∙ ap (someHolds tab) (drop-cons fs 0 [] (fields-some bar r))
       ∙ rw first (typed-free (row l (kindOf bar l r) .rules) (drop 1 fs) 2 many (p .typed))
 
   pub each-free : (before rs : List (List ℕ)) → Each (FineRecord l) before rs → someHolds tab rs ≡ false

@@ -25,7 +25,7 @@ use Rattle.judge.specs.File.{bar, verdict}
 use Rattle.judge.specs.declared.Verdict.{Verdict}
 use Rattle.judge.specs.declared.Verdict.the-variants as verdicts
 use Rattle.judge.proofs.Files.{inner}
-use Rattle.value.specs.Value.{recordAt, isThere, placeOf, textAt, asValue, answerIn, fieldValue, ofAccepted, valueBy, valueIn, paper, text, TextWithin}
+use Rattle.value.specs.Value.{recordAt, isThere, placeOf, endOf, textAt, asValue, answerIn, fieldValue, ofAccepted, valueBy, valueIn, paper, text, TextWithin}
 use Rattle.value.specs.declared.Value.{Value}
 use Rattle.value.specs.declared.Value.the-variants.{Refused}
 
@@ -118,7 +118,7 @@ pub text-bytes : (f : List ℕ) (n k : ℕ) → isThere f n k ≡ true
 text-bytes f n k e = ap (text (placeOf f n k) (placeOf f n k + length (field bar k (recordAt f n)))) (text-lies f n k e .is)
 
 -- and every text that is answered lies within the file
-within-answer : (f : List ℕ) (n k : ℕ) → TextWithin f (textAt f n k) → (a : FieldAnswer) → TextWithin f (asValue f n k a)
+within-answer : (f : List ℕ) (n k : ℕ) → TextWithin f (textAt f n k) → (a : FieldAnswer) → TextWithin f (asValue n k (placeOf f n k) (endOf f n k) a)
 within-answer f n k h (answers.Refused number) = tt
 within-answer f n k h answers.Empty = tt
 within-answer f n k h (answers.Number z) = tt

@@ -4,7 +4,7 @@ use mathlib.Core.Path.{_≡_, refl, sym, ap, _∙_}
 use mathlib.Core.Bool.{Bool, true, false, _&&_}
 use mathlib.Core.List.{List}
 use native.Mathlib.Omega.{arith}
-use lib.ListN.{length, take, drop, List·getD-eq-default}
+use lib.ListN.{length, take, drop}
 use borrow.Author.Tests.{le-leb, lt-leb, eq-eqb, ne-eqb}
 use Rattle.text.specs.Rules.{must}
 use Rattle.text.specs.Characters.{from-to}
@@ -17,21 +17,17 @@ use Rattle.field.specs.declared.FieldType.{FieldType}
 use Rattle.field.specs.declared.FieldType.the-variants as types
 use Rattle.field.specs.declared.FieldAnswer.{FieldAnswer}
 use Rattle.field.specs.declared.Mark.{Mark}
-use Rattle.layout.specs.Layout.{Rule, Layout, row}
+use Rattle.layout.specs.Layout.{Rule, noRule, Layout}
 use Rattle.layout.specs.Numbers.{word, typeOf, fixedOf, ruleOf, layoutOf, RulesOf}
-use Rattle.layout.proofs.FieldRules.{rules-length, rule-at, type-is}
+use Rattle.layout.proofs.FieldRules.{rule-at, rule-past, type-is}
 use Rattle.fault.specs.Record.{kindOf}
 use Rattle.judge.specs.File.{bar}
-use Rattle.value.specs.Value.{recordAt, isThere, placeOf, ruleFor, byRule, asValue, fieldValue, valueBy}
-use Rattle.value.specs.Code.{Placed}
+use Rattle.value.specs.Value.{recordAt, isThere, placeOf, endOf, ruleFor, byRule, asValue, fieldValue, valueBy}
 use Rattle.value.specs.declared.Value.{Value}
 use Rattle.value.specs.declared.Value.the-variants.{Refused, Text}
 
 -- field k of a record of kind j, whose m rules stand at p
 module _ (t fixed : List ℕ) (j p m : ℕ) (rules : RulesOf t fixed j p m) (k : ℕ) (s : List ℕ) where
-  abbrev none : Rule
-  none = record { type = types.Null; mark = bare }
-
   pub ruled : k - 2 < m → (mark : Mark) {type : FieldType} {value : List ℕ} {a : FieldAnswer}
       → type ≡ typeOf (word t (p + 3 * (k - 2))) → marked mark (fixedOf t fixed (p + 3 * (k - 2))) ≡ ruleOf t fixed (p + 3 * (k - 2)) .mark
       → value ≡ fixedOf t fixed (p + 3 * (k - 2)) → a ≡ fieldAnswer type (marked mark value) s
@@ -39,13 +35,11 @@ module _ (t fixed : List ℕ) (j p m : ℕ) (rules : RulesOf t fixed j p m) (k :
   ruled h mark ty mk v is =
       let q = ty ∙ type-is t fixed (p + 3 * (k - 2)) in
       let w = ap (marked mark) v ∙ mk in
-      is ∙ (λ i. fieldAnswer (q i) (w i) s) ∙ sym (ap (λ (r : Rule). byRule r s) (rule-at t fixed j p m rules none (k - 2) h))
+      is ∙ (λ i. fieldAnswer (q i) (w i) s) ∙ sym (ap (λ (r : Rule). byRule r s) (rule-at t fixed j p m rules noRule (k - 2) h))
 
   -- past the rules, null's
   pub unruled : m ≤ k - 2 → {a : FieldAnswer} → a ≡ fieldAnswer types.Null bare s → a ≡ byRule (ruleFor (layoutOf t fixed) j k) s
-  unruled h is =
-      let past : length (row (layoutOf t fixed) j .rules) ≤ k - 2 = omega (arith, rules-length t fixed j p m rules) in
-      is ∙ sym (ap (λ (r : Rule). byRule r s) (List·getD-eq-default (row (layoutOf t fixed) j .rules) none {n = k - 2} past))
+  unruled h is = is ∙ sym (ap (λ (r : Rule). byRule r s) (rule-past t fixed j p m rules noRule (k - 2) h))
 
 -- a number from 1 to n, and one that is 0 or above n
 counts : (n k : ℕ) → 1 ≤ k → k ≤ n → from-to 1 n k ≡ true
@@ -91,15 +85,14 @@ module _ (l : Layout) (f : List ℕ) (n k : ℕ) where
       bytes-are : s ≡ field bar k (recordAt f n)
       bytes-are = field-stands bar k r y .is ∙ ap (field bar k) (x .is .is)
 
-      pub placed : Placed f n k (start + a) (start + e)
+      placed : (start + a ≡ placeOf f n k) × (start + e ≡ endOf f n k)
       unfolding placeOf
       placed =
           let q : a ≡ extent (take (k - 1) (fields bar (recordAt f n))) =
-          y .starts ∙ ap (λ (u : List ℕ). extent (take (k - 1) (fields bar u))) (x .is .is) in
-          record {
-            starts = omega (arith, x .starts, q);
-            ends = omega (arith, x .starts, q, y .is .ordered, part-length r a e (y .is .ordered) (y .is .within), ap length bytes-are);
-          }
+          y .starts ∙ ap (λ (u : List ℕ). extent (take (k - 1) (fields bar u))) (x .is .is) in (
+            omega (arith, x .starts, q),
+            omega (arith, x .starts, q, y .is .ordered, part-length r a e (y .is .ordered) (y .is .within), ap length bytes-are),
+          )
 
       found : valueBy l f n k ≡ fieldValue l f n k
       unfolding valueBy
@@ -108,12 +101,12 @@ module _ (l : Layout) (f : List ℕ) (n k : ℕ) where
       -- a kind
       pub kind-value : k ≡ 1 → Text (start + a) (start + e) ≡ valueBy l f n k
       unfolding fieldValue
-      kind-value z = (λ i. Text (placed .starts i) (placed .ends i)) ∙ sym (found ∙ rw (eq-eqb k 1 z))
+      kind-value z = (λ i. Text (placed .0 i) (placed .1 i)) ∙ sym (found ∙ rw (eq-eqb k 1 z))
 
       -- any other field
       pub ruled-value : (k ≡ 1 → ⊥) → {j : ℕ} {answer : FieldAnswer} {v : Value} → j ≡ kindOf bar l r → answer ≡ byRule (ruleFor l j k) s
-          → v ≡ asValue f n k answer → v ≡ valueBy l f n k
+          → v ≡ asValue n k (start + a) (start + e) answer → v ≡ valueBy l f n k
       unfolding fieldValue
       ruled-value z kind is v =
           let j = kind ∙ ap (kindOf bar l) (x .is .is) in
-          v ∙ ap (asValue f n k) (is ∙ (λ i. byRule (ruleFor l (j i) k) (bytes-are i))) ∙ sym (found ∙ rw (ne-eqb k 1 z))
+          v ∙ (λ i. asValue n k (placed .0 i) (placed .1 i) ((is ∙ (λ i. byRule (ruleFor l (j i) k) (bytes-are i))) i)) ∙ sym (found ∙ rw (ne-eqb k 1 z))

@@ -8,11 +8,10 @@ use lib.ListN.{length, getD, take, drop}
 use Rattle.text.specs.Rules.{must}
 use Rattle.text.specs.Characters.{from-to}
 use Rattle.record.specs.Records.{records, fields, field, extent}
-use Rattle.field.specs.Judge.{bare, fieldAnswer}
+use Rattle.field.specs.Judge.{fieldAnswer}
 use Rattle.field.specs.declared.FieldAnswer.{FieldAnswer}
 use Rattle.field.specs.declared.FieldAnswer.the-variants as answers
-use Rattle.field.specs.declared.FieldType.the-variants as types
-use Rattle.layout.specs.Layout.{Layout, Rule, row}
+use Rattle.layout.specs.Layout.{Layout, Rule, noRule, row}
 use Rattle.flow.specs.Publication.{layoutFor}
 use Rattle.flow.specs.Flows.{flowNamed}
 use Rattle.fault.specs.Record.{kindOf}
@@ -34,25 +33,29 @@ isThere f n k = from-to 1 (length (records f)) n && from-to 1 (length (fields ba
 unfoldable pub placeOf : List ℕ → ℕ → ℕ → ℕ
 placeOf f n k = extent (take (n - 1) (records f)) + extent (take (k - 1) (fields bar (recordAt f n)))
 
+-- where it ends
+abbrev pub endOf : List ℕ → ℕ → ℕ → ℕ
+endOf f n k = placeOf f n k + length (field bar k (recordAt f n))
+
 -- a text's value is its bytes: where they start and end in the file
 abbrev pub textAt : List ℕ → ℕ → ℕ → Value
-textAt f n k = Text (placeOf f n k) (placeOf f n k + length (field bar k (recordAt f n)))
+textAt f n k = Text (placeOf f n k) (endOf f n k)
 
 -- the rule of field k, counted from 1, in a record of kind j
 abbrev pub ruleFor : Layout → ℕ → ℕ → Rule
-ruleFor l j k = getD (row l j .rules) (k - 2) (record { type = types.Null; mark = bare })
+ruleFor l j k = getD (row l j .rules) (k - 2) noRule
 
 -- the answer of a field's bytes by a rule
 abbrev pub byRule : Rule → List ℕ → FieldAnswer
 byRule rule s = fieldAnswer (rule .type) (rule .mark) s
 
--- a field's answer as a value of the file
-abbrev pub asValue : List ℕ → ℕ → ℕ → FieldAnswer → Value
-asValue f n k (answers.Refused number) = Refused number n k
-asValue f n k answers.Empty = Empty
-asValue f n k (answers.Number z) = Number z
-asValue f n k (answers.Truth b) = Truth b
-asValue f n k answers.Text = textAt f n k
+-- the answer of field k of record n as a value; a text stands from a place up to another
+abbrev pub asValue : ℕ → ℕ → ℕ → ℕ → FieldAnswer → Value
+asValue n k from to (answers.Refused number) = Refused number n k
+asValue n k from to answers.Empty = Empty
+asValue n k from to (answers.Number z) = Number z
+asValue n k from to (answers.Truth b) = Truth b
+asValue n k from to answers.Text = Text from to
 
 -- the answer of field k of a record
 abbrev pub answerIn : Layout → List ℕ → ℕ → FieldAnswer
@@ -60,7 +63,7 @@ answerIn l r k = byRule (ruleFor l (kindOf bar l r) k) (field bar k r)
 
 -- the value of a field that is there: a kind's is its bytes, any other's goes by its rule
 unfoldable pub fieldValue : Layout → List ℕ → ℕ → ℕ → Value
-fieldValue l f n k = cond (eqb k 1) (textAt f n k) (asValue f n k (answerIn l (recordAt f n) k))
+fieldValue l f n k = cond (eqb k 1) (textAt f n k) (asValue n k (placeOf f n k) (endOf f n k) (answerIn l (recordAt f n) k))
 
 -- the reader's refusal; of an accepted file what comes after
 abbrev pub ofAccepted : Verdict → Value → Value

@@ -9,7 +9,6 @@ ghost use mathlib.Core.List.{List};
 ghost use Prim.Native.Nat.{ℕ, _≤_};
 ghost use Rattle.layout.specs.Numbers.{layoutOf};
 ghost use Rattle.value.specs.Value.{ruleFor, byRule, asValue, valueBy, valued, paper, TextWithin};
-ghost use Rattle.value.specs.Code.{Placed};
 
 // A refusal with number, record and field; or a value. A text's value is where its bytes start and end in the file.
 pub enum Value {
@@ -44,9 +43,9 @@ fn answer_by(t: &[u32], fixed: &[u8], j: usize, k: usize, s: &[u8]) -> FieldAnsw
     field::judge_marked(kind, mark, value, &class, s)
 }
 
-// The answer of field k of record n as a value; a text stands from `from` up to `to` in the file.
-fn as_value(a: FieldAnswer, n: usize, k: usize, from: usize, to: usize) -> Value
-    ensures { λ v. ⌜ ((f : List ℕ) → Placed f n k from to → v ≡ asValue f n k a) ⌝ }
+// The answer of field k of record n as a value; a text stands from `from` up to `to`.
+pub fn as_value(a: FieldAnswer, n: usize, k: usize, from: usize, to: usize) -> Value
+    ensures { λ v. ⌜ v ≡ asValue n k from to a ⌝ }
 {
     match a {
         FieldAnswer::Refused(number) => Value::Refused {

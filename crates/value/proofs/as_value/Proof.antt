@@ -4,7 +4,7 @@ use mathlib.Core.Path.{sym, ap, _∙_}
 use mir.Syntax.{w64}
 use mir.ValLaws.{toZ-ofZ}
 use Rattle.value.specs.Value.{asValue}
-use Rattle.value.specs.declared.Value.the-variants.{Number, Text}
+use Rattle.value.specs.declared.Value.the-variants.{Number}
 use Rattle.value.proofs.as_value.Statement.{statement}
 use Rattle.value.proofs.as_value.Tie as tie
 
@@ -29,29 +29,28 @@ enum-told-2 c = search needs
 returns : tie.Need-returns
 returns c =
     let a = c .before .before .before .args in
-    λ f p. sym (ap (asValue f (a .n) (a .k)) (c .before .a .given .1))
+    sym (ap (asValue (a .n) (a .k) (a .from) (a .to)) (c .before .a .given .1))
 
 returns-2 : tie.Need-returns-2
 returns-2 c =
     let a = c .before .before .args in
-    λ f p. sym (ap (asValue f (a .n) (a .k)) (c .enum-told .given .1))
+    sym (ap (asValue (a .n) (a .k) (a .from) (a .to)) (c .enum-told .given .1))
 
 returns-3 : tie.Need-returns-3
 returns-3 c =
     let a = c .before .before .before .args in
-    λ f p.
     ap Number (toZ-ofZ w64 _ (record { sfits = c .known-told2 .given .0 .1 }))
-    ∙ sym (ap (asValue f (a .n) (a .k)) (c .before .a2 .given .1))
+    ∙ sym (ap (asValue (a .n) (a .k) (a .from) (a .to)) (c .before .a2 .given .1))
 
 returns-4 : tie.Need-returns-4
 returns-4 c =
     let a = c .before .before .before .args in
-    λ f p. sym (ap (asValue f (a .n) (a .k)) (c .before .a3 .given .1))
+    sym (ap (asValue (a .n) (a .k) (a .from) (a .to)) (c .before .a3 .given .1))
 
 returns-5 : tie.Need-returns-5
 returns-5 c =
     let a = c .before .before .args in
-    λ f p. (λ i. Text (p .starts i) (p .ends i)) ∙ sym (ap (asValue f (a .n) (a .k)) (c .enum-told2 .given .1))
+    sym (ap (asValue (a .n) (a .k) (a .from) (a .to)) (c .enum-told2 .given .1))
 
 pub as-value-spec : {M : Type 1} → statement M
 as-value-spec =

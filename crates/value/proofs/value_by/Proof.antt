@@ -9,7 +9,7 @@ use Rattle.record.specs.Found.{Stands}
 use Rattle.record.proofs.Cursors.{part-length}
 use Rattle.layout.specs.Numbers.{layoutOf}
 use Rattle.judge.specs.File.{bar}
-use Rattle.value.proofs.Ruled.{no-record, no-field, placed, kind-value, ruled-value}
+use Rattle.value.proofs.Ruled.{no-record, no-field, kind-value, ruled-value}
 use Rattle.value.proofs.value_by.Statement.{statement}
 use Rattle.value.proofs.value_by.Tie as tie
 
@@ -131,8 +131,7 @@ returns-4 c =
     let l = layoutOf (now (a .t)) fixed in
     let x = here found in
     let y = inside (other .before) in
-    ruled-value l f (a .n) (a .k) x y (other .if1 .left) (c .before .before .before .kind-of .ensures .0 fixed) (c .before .answer-by .ensures)
-    (c .as-value .ensures f (placed l f (a .n) (a .k) x y))
+    ruled-value l f (a .n) (a .k) x y (other .if1 .left) (c .before .before .before .kind-of .ensures .0 fixed) (c .before .answer-by .ensures) (c .as-value .ensures)
 
 pub value-by-spec : {M : Type 1} → statement M
 value-by-spec =
