@@ -1,6 +1,6 @@
 // The sentence on one field's bytes.
-use crate::refusals;
 use crate::form;
+use crate::refusals;
 use crate::say;
 use field::FieldType;
 use field::Mark;

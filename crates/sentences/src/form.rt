@@ -33,7 +33,7 @@ fn mark_words(mark: Mark, fixed: &[u8]) -> bool {
     match mark {
         Mark::Bare => true,
         Mark::Opt => print(b" opt"),
-        Mark::Fixed => print(b" =") && say::shown(fixed),
+        Mark::Fixed => print(b" =") && say::spelled(fixed),
     }
 }
 

@@ -1,11 +1,11 @@
 // The sentence on a refusal of a file or a sheet: where it is, the rule, what was found and what would be
 // right. In a file bars part the fields, in a sheet tabs.
-use crate::refusals;
 use crate::form;
 use crate::kinds;
 use crate::kinds::kind_at;
 use crate::place;
 use crate::place::Refusal;
+use crate::refusals;
 use crate::say;
 use judge::Verdict;
 use record::Cursor;
@@ -13,6 +13,7 @@ use record::Found;
 use record::Step;
 use stream::print;
 ghost use mathlib.Core.Path.{_≡_};
+ghost use Prim.Native.Nat.{ℕ};
 ghost use mathlib.Core.List.{List};
 ghost use Rattle.layout.specs.Numbers.{layoutOf};
 ghost use Rattle.sentences.specs.Footer.{footerLine};
@@ -133,7 +134,8 @@ fn say_size(file: &[u8]) -> bool {
 // What was found and what would be right, for a refusal of a record as a whole.
 fn say_shape(t: &[u32], sep: u8, file: &[u8], r: Refusal) -> bool {
     let line = words::part(FEED, file, r.record);
-    match r.number {
+    let number = r.number;
+    match number {
         3 => {
             print(b"; found ")
                 && say::number(line.len())
@@ -141,9 +143,7 @@ fn say_shape(t: &[u32], sep: u8, file: &[u8], r: Refusal) -> bool {
                 && say::say_return(line)
         }
         4 => {
-            say_found(sep, file, r)
-                && print(b"; the flow's kinds are:")
-                && kinds::say_kinds(t, ALL)
+            say_found(sep, file, r) && print(b"; the flow's kinds are:") && kinds::say_kinds(t, ALL)
         }
         5 => say_found(sep, file, r) && say_followers(t, sep, file, r.record),
         _ => say_field_count(t, sep, fault::kind_of(t, sep, line), line),
@@ -156,16 +156,18 @@ fn say_field(t: &[u32], fixed: &[u8], sep: u8, file: &[u8], r: Refusal) -> bool 
     if !say_found(sep, file, r) {
         return false;
     }
-    match r.number {
+    let number = r.number;
+    match number {
         11 => say_key_before(t, sep, file, kind, r),
         12 | 13 => say_right(sep, file, r),
-        _ => say_rule(t, fixed, kind, r.field, r.number),
+        _ => say_rule(t, fixed, kind, r.field, number),
     }
 }
 
 // The same for any refusal but 18, by the flow's table.
 fn say_details(t: &[u32], fixed: &[u8], sep: u8, file: &[u8], r: Refusal) -> bool {
-    match r.number {
+    let number = r.number;
+    match number {
         2 => say_size(file),
         3 | 4 | 5 | 6 => say_shape(t, sep, file, r),
         7 | 8 | 9 | 10 | 11 | 12 | 13 => say_field(t, fixed, sep, file, r),
@@ -193,7 +195,10 @@ fn say_cause(n: usize) -> bool {
 // nothing may stand. A line refused for its bars has them between its fields.
 fn say_footer_line(t: &[u32], sep: u8, sheet: &[u8], r: Refusal) -> bool {
     let n = r.record;
-    if sep != TAB || n == 0 {
+    if sep != TAB {
+        return true;
+    }
+    if n < 1 {
         return true;
     }
     if is_footer_line(t, TAB, sheet, n) {

@@ -1,6 +1,7 @@
 // The kinds of a flow, and which may stand where.
 use stream::print;
 ghost use mathlib.Core.Path.{_≡_};
+ghost use Prim.Native.Nat.{ℕ};
 ghost use mathlib.Core.List.{List};
 ghost use Rattle.record.specs.Records.{field};
 ghost use Rattle.layout.specs.Numbers.{layoutOf};

@@ -47,11 +47,7 @@ fn late_rule(n: usize) -> bool {
 
 // The rule that refusal n holds up.
 pub fn rule(n: usize) -> bool {
-    if n < 10 {
-        early_rule(n)
-    } else {
-        late_rule(n)
-    }
+    if n < 10 { early_rule(n) } else { late_rule(n) }
 }
 
 // There is a refusal n.

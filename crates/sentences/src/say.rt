@@ -12,32 +12,32 @@ pub fn number(n: usize) -> bool {
     print(&digits[..k])
 }
 
-// A byte as it is, or by its two hex digits where it can't be seen.
-fn byte(b: u8) -> bool {
-    print(&[b])
+// Bytes as people can read them, at most 64 of them.
+fn first(s: &[u8]) -> bool {
+    let mut room = [0u8; 256];
+    let n = words::show(text::part(s, 0, 64), &mut room);
+    print(&room[..n])
 }
 
-// Bytes as people can read them.
-pub fn shown(s: &[u8]) -> bool {
-    let mut i = 0;
-    while i < s.len() {
-        if !byte(s[i]) {
-            return false;
-        }
-        i += 1;
+// Where bytes are more than 64, that is said.
+fn rest(s: &[u8]) -> bool {
+    if 64 < s.len() {
+        return print(b" and more");
     }
     true
 }
 
-// Bytes between quotes, at most 64 of them; or nothing.
+// Bytes as they stand in a type's spelling.
+pub fn spelled(s: &[u8]) -> bool {
+    first(s) && rest(s)
+}
+
+// Bytes between quotes; or nothing.
 pub fn quoted(s: &[u8]) -> bool {
     if s.len() == 0 {
         return print(b"nothing");
     }
-    if s.len() <= 64 {
-        return print(b"`") && shown(s) && print(b"`");
-    }
-    print(b"`") && shown(text::part(s, 0, 64)) && print(b"` and more")
+    print(b"`") && first(s) && print(b"`") && rest(s)
 }
 
 // What was found.

@@ -5,7 +5,10 @@ use stream::print;
 
 // Kind n of a list, counted from 1; no bytes where there is none.
 fn kind_in<'a>(list: &'a [u8], n: usize) -> &'a [u8] {
-    if n == 0 || list.len() / 3 < n - 1 {
+    if n < 1 {
+        return text::part(list, 0, 0);
+    }
+    if list.len() / 3 < n - 1 {
         return text::part(list, 0, 0);
     }
     text::part(list, 3 * (n - 1), 3)
