@@ -1,17 +1,25 @@
--- `all_fit` ends, as each turn goes on to a higher word.
+-- `all_fit` ends, as each turn goes on to a later word.
 use Prim.Native.Nat.{_-_, _≤_}
+use mathlib.Core.Path.{_≡_}
+use lib.ListN.{length}
 use borrow.Author.Needs.{needs}
-use Rattle.rig.proofs.command.all_fit.Statement.{statement}
-use Rattle.rig.proofs.command.all_fit.Tie as tie
+use Rattle.rig.proofs.arguments.all_fit.Statement.{statement}
+use Rattle.rig.proofs.arguments.all_fit.Tie as tie
 
 abbrev Inv-loop : tie.InvT-loop
-Inv-loop i₀ i = i ≤ 6
+Inv-loop count word₀ i₀ word i = (i ≤ count) × (65536 ≡ length word)
 
 abbrev μ-loop : tie.MeasureT-loop
-μ-loop i₀ i = 6 - i
+μ-loop count word₀ i₀ word i = count - i
+
+large-buffer-requires : tie.Need-large-buffer-requires Inv-loop μ-loop
+large-buffer-requires c κs = search needs
 
 loop-holds : tie.Need-loop-holds Inv-loop μ-loop
 loop-holds c = search needs
+
+slice-aggregate-fits : tie.Need-slice-aggregate-fits Inv-loop μ-loop
+slice-aggregate-fits c = search needs
 
 fits-requires : tie.Need-fits-requires Inv-loop μ-loop
 fits-requires c κs = search needs
@@ -37,7 +45,9 @@ all-fit-spec =
     (tie.spec
     Inv-loop
     μ-loop
+    large-buffer-requires
     loop-holds
+    slice-aggregate-fits
     fits-requires
     returns
     add-i
