@@ -4,6 +4,7 @@ use judge::Verdict;
 use sentences::Refusal;
 use stream::Ending;
 use stream::print;
+use stream::print_number;
 use stream::print_numbers;
 ghost use mathlib.Core.Path.{_≡_};
 ghost use mathlib.Core.Bool.{true};
@@ -66,12 +67,9 @@ fn judge_bytes(flow: &[u8], file: &[u8]) -> Judged {
     }
 }
 
-// Prints a file's name in front of its answer. A name that could be opened has at most 4,095 bytes, and a byte
-// is shown by at most four.
+// Prints a file's name in front of its answer.
 fn print_name(path: &[u8]) -> bool {
-    let mut shown = [0u8; 16384];
-    let n = words::show(path, &mut shown);
-    print(&shown[..n]) && print(b"\t")
+    stream::print_shown(path) && print(b"\t")
 }
 
 // Judges the file that word i names; its name stands in front of the answer where it is asked.
@@ -129,16 +127,16 @@ fn print_unread(unread: usize) -> bool {
     if unread == 0 {
         return true;
     }
-    print(b", ") && sentences::number(unread) && print(b" not read")
+    print(b", ") && print_number(unread as u64) && print(b" not read")
 }
 
 // Prints the last line of a run over many files.
 fn print_tally(files: usize, t: Tally) -> bool {
-    sentences::number(files)
+    print_number(files as u64)
         && print(b" files, ")
-        && sentences::number(t.accepted)
+        && print_number(t.accepted as u64)
         && print(b" accepted, ")
-        && sentences::number(t.refused)
+        && print_number(t.refused as u64)
         && print(b" refused")
         && print_unread(t.unread)
         && print(b"\n")

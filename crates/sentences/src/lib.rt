@@ -14,5 +14,4 @@ pub use found::about_file;
 pub use place::Refusal;
 pub use refusals::explain;
 pub use refusals::has_rule;
-pub use say::number;
 pub use step::about_stop;

@@ -7,16 +7,12 @@ const RETURN: u8 = 0x0D;
 
 // A number in decimal digits.
 pub fn number(n: usize) -> bool {
-    let mut digits = [0u8; 20];
-    let k = io::decimal(n as u64, &mut digits);
-    print(&digits[..k])
+    stream::print_number(n as u64)
 }
 
 // Bytes as people can read them, at most 64 of them.
 fn first(s: &[u8]) -> bool {
-    let mut room = [0u8; 256];
-    let n = words::show(text::part(s, 0, 64), &mut room);
-    print(&room[..n])
+    stream::print_shown(text::part(s, 0, 64))
 }
 
 // Where bytes are more than 64, that is said.
