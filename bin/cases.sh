@@ -59,6 +59,8 @@ cut_short() { # WHAT PHRASE...
     hold "$what" says_why "$@"
 }
 
+same() { [ "$1" = "$2" ]; } # TEXT TEXT
+
 absent() { for path; do if [ -e "$path" ] || [ -h "$path" ]; then return 1; fi; done; }
 
 # Runs a command as nobody where we are root, who may write anywhere.
