@@ -1,6 +1,6 @@
 // The bench: judges one file on standard input, and prints the verdict on one line.
 use judge::Verdict;
-use libc::STDIN_FILENO;
+use stream::Ending;
 ghost use mathlib.Core.Path.{_≡_};
 ghost use Rattle.judge.specs.File.{paper};
 ghost use Rattle.judge.specs.declared.Verdict.the-variants.{Refused};
@@ -37,9 +37,28 @@ fn answer(input: &[u8]) -> Verdict
     judge::judge(flow, &input[9..])
 }
 
+// Prints the verdict: the run ends well where the file is accepted.
+fn give(v: Verdict) -> Ending {
+    if !stream::print_verdict(v) {
+        return Ending::Hindered;
+    }
+    match v {
+        Verdict::Accepted(_) => Ending::Well,
+        Verdict::Refused {
+            number: _,
+            record: _,
+            field: _,
+        } => Ending::Refused,
+    }
+}
+
 // Reads one byte more than is taken, so that a file that is too long shows.
 fn main() {
     let mut input = [0u8; 65546];
-    let n = io::read_full(STDIN_FILENO, &mut input);
-    stream::print_verdict(answer(&input[..n]));
+    let loaded = stream::load_input(b"bench", &mut input);
+    if !loaded.read {
+        return stream::end(Ending::Hindered);
+    }
+    let n = loaded.size;
+    stream::end(give(answer(&input[..n])));
 }

@@ -4,17 +4,18 @@ use mathlib.Core.List.{List}
 use lib.ListN.{length}
 use Rattle.stream.specs.Window.{Within}
 use Rattle.nightly.specs.declared.First.{First}
-use Rattle.nightly.specs.declared.First.the-variants.{Took, Short, Bad}
+use Rattle.nightly.specs.declared.First.the-variants.{Took, Short, Bad, Unwritten}
 use Rattle.nightly.specs.declared.Turn.{Turn}
 use Rattle.nightly.specs.declared.Turn.the-variants.{On, Over}
 
 -- a case takes no more bytes than there are
 abbrev pub TakesOf : List ℕ → First → Type 0
 TakesOf s (Took n) = n ≤ length s
-TakesOf s Short = Unit {0}
-TakesOf s Bad = Unit {0}
+TakesOf s (Short f) = Unit {0}
+TakesOf s (Bad f) = Unit {0}
+TakesOf s Unwritten = Unit {0}
 
 -- where the run goes on, the unread bytes are bytes of the window
 abbrev pub StaysIn : List ℕ → Turn → Type 0
-StaysIn window (On u) = Within window (u .from) (u .to)
-StaysIn window Over = Unit {0}
+StaysIn window (On r) = Within window (r .unread .from) (r .unread .to)
+StaysIn window (Over e) = Unit {0}

@@ -1,4 +1,4 @@
-// The answer to a case: one line.
+// The answer to a case: one line. Each function gives whether all of it was written.
 use crate::header::Ask;
 use crate::room::fill;
 use crate::room::kept;
@@ -6,8 +6,9 @@ use field::FieldAnswer;
 use field::FieldType;
 use field::Mark;
 use flow::StepAnswer;
-use libc::STDOUT_FILENO;
 use sheet::Transfer;
+use stream::least;
+use stream::print;
 use stream::print_follow;
 use stream::print_numbers;
 use stream::print_transfer;
@@ -15,11 +16,9 @@ use stream::print_truth;
 use stream::print_value;
 use stream::print_whole;
 use value::Value;
-ghost use mathlib.Core.Path.{_≡_};
-ghost use Prim.Native.Nat.{_≤_, min};
 
 // The value of one field of a file.
-fn value_line(flow: &[u8], record: usize, field: usize, file: &[u8]) {
+fn value_line(flow: &[u8], record: usize, field: usize, file: &[u8]) -> bool {
     match value::value_of(flow, file, record, field) {
         Value::Refused {
             number,
@@ -34,7 +33,7 @@ fn value_line(flow: &[u8], record: usize, field: usize, file: &[u8]) {
 }
 
 // One field's bytes against a type and its mark. A text's value is the bytes themselves.
-fn field_line(form: FieldType, mark: Mark, fixed: &[u8], bytes: &[u8]) {
+fn field_line(form: FieldType, mark: Mark, fixed: &[u8], bytes: &[u8]) -> bool {
     match field::judge(form, mark, fixed, bytes) {
         FieldAnswer::Refused(number) => print_numbers(b"refused", number as usize, 0, 0),
         FieldAnswer::Empty => print_value(b"empty", b""),
@@ -45,12 +44,12 @@ fn field_line(form: FieldType, mark: Mark, fixed: &[u8], bytes: &[u8]) {
 }
 
 // The checksum of bytes.
-fn sum_line(bytes: &[u8]) {
-    print_numbers(b"ok", 0, record::checksum(bytes) as usize, 0);
+fn sum_line(bytes: &[u8]) -> bool {
+    print_numbers(b"ok", 0, record::checksum(bytes) as usize, 0)
 }
 
 // The step of the flow table through kinds.
-fn step_line(flow: &[u8], kinds: &[u8]) {
+fn step_line(flow: &[u8], kinds: &[u8]) -> bool {
     let mut follow = [0u8; 96];
     match flow::step(flow, kinds, &mut follow) {
         StepAnswer::Refused(number) => print_numbers(b"refused", number as usize, 0, 0),
@@ -60,7 +59,7 @@ fn step_line(flow: &[u8], kinds: &[u8]) {
 }
 
 // A result in the room: the line of what was done, then the bytes and a line feed; or a refusal.
-fn transfer_line(done: Transfer, room: &[u8]) {
+fn transfer_line(done: Transfer, room: &[u8]) -> bool {
     match done {
         Transfer::Refused {
             number,
@@ -68,36 +67,29 @@ fn transfer_line(done: Transfer, room: &[u8]) {
             field,
         } => print_transfer(b"refused", number, record, field, kept(room, 0)),
         Transfer::Done { records, bytes } => {
-            print_transfer(b"ok", 0, records, bytes, kept(room, bytes));
-            io::write_all(STDOUT_FILENO, text::part(room, 0, bytes));
-            io::write_all(STDOUT_FILENO, b"\n");
+            print_transfer(b"ok", 0, records, bytes, kept(room, bytes))
+                && print(text::part(room, 0, bytes))
+                && print(b"\n")
         }
     }
 }
 
 // A file from a sheet.
-fn write_line(flow: &[u8], sheet: &[u8], room: &mut [u8]) {
+fn write_line(flow: &[u8], sheet: &[u8], room: &mut [u8]) -> bool {
     fill(room);
     let done = sheet::write(flow, sheet, room);
-    transfer_line(done, room);
+    transfer_line(done, room)
 }
 
 // A sheet from a file.
-fn read_line(flow: &[u8], file: &[u8], room: &mut [u8]) {
+fn read_line(flow: &[u8], file: &[u8], room: &mut [u8]) -> bool {
     fill(room);
     let done = sheet::read(flow, file, room);
-    transfer_line(done, room);
-}
-
-// As many bytes as are asked, or as the room has.
-fn least(a: usize, b: usize) -> usize
-    ensures { λ r. ⌜ (r ≡ min a b) × (r ≤ b) ⌝ }
-{
-    if a < b { a } else { b }
+    transfer_line(done, room)
 }
 
 // Answers a case: what is asked, the flow that its header names, the fixed value and the body behind it, and room for a result.
-pub fn answer(ask: Ask, flow: &[u8], fixed: &[u8], body: &[u8], room: &mut [u8]) {
+pub fn answer(ask: Ask, flow: &[u8], fixed: &[u8], body: &[u8], room: &mut [u8]) -> bool {
     match ask {
         Ask::Judge => stream::print_verdict(judge::judge(flow, body)),
         Ask::Value { record, field } => value_line(flow, record, field, body),
@@ -106,11 +98,11 @@ pub fn answer(ask: Ask, flow: &[u8], fixed: &[u8], body: &[u8], room: &mut [u8])
         Ask::Step => step_line(flow, body),
         Ask::Write { room: size } => {
             let n = least(size, room.len());
-            write_line(flow, body, &mut room[0..n]);
+            write_line(flow, body, &mut room[0..n])
         }
         Ask::Read { room: size } => {
             let n = least(size, room.len());
-            read_line(flow, body, &mut room[0..n]);
+            read_line(flow, body, &mut room[0..n])
         }
     }
 }

@@ -1,4 +1,5 @@
 // The header line of a case: words parted by tabs.
+use crate::broken::Fault;
 use field::FieldType;
 use field::Mark;
 use text::same_bytes;
@@ -28,14 +29,17 @@ pub enum Ask {
     Read { room: usize },
 }
 
-// What a header says: what is asked, how many bytes of fixed value and how many of body are behind it.
+// What is asked, how many bytes of fixed value and how many of body are behind the header.
+pub struct Case {
+    pub ask: Ask,
+    pub fixed: usize,
+    pub length: usize,
+}
+
+// What a header says, or what is wrong with it.
 pub enum Header {
-    Case {
-        ask: Ask,
-        fixed: usize,
-        length: usize,
-    },
-    Bad,
+    Of(Case),
+    Bad(Fault),
 }
 
 // Word k of a header, counted from 1.
@@ -59,95 +63,133 @@ fn read_asked(digits: &[u8]) -> Number
     words::read_number(digits, 10, ASKED_LIMIT)
 }
 
-// A case without a fixed value, by the last word of its header.
-fn case_of(ask: Ask, last: &[u8]) -> Header {
+// How many words a header has.
+fn count_words(header: &[u8]) -> usize {
+    record::count_fields(TAB, header)
+}
+
+// A header that has not as many words as its case.
+fn wrong_words(right: usize, header: &[u8]) -> Header {
+    Header::Bad(Fault::Words {
+        right: right,
+        came: count_words(header),
+    })
+}
+
+// A case with the body's length in its last word.
+fn case_of(ask: Ask, fixed: usize, last: &[u8]) -> Header {
     let Number::Is(length) = read_length(last) else {
-        return Header::Bad;
+        return Header::Bad(Fault::Length);
     };
-    Header::Case {
+    Header::Of(Case {
         ask: ask,
-        fixed: 0,
+        fixed: fixed,
         length: length,
+    })
+}
+
+// A case of so many words, of which none but the last is read here: sum LENGTH, judge FLOW LENGTH, step FLOW LENGTH
+fn read_plain(ask: Ask, right: usize, header: &[u8]) -> Header {
+    if count_words(header) != right {
+        return wrong_words(right, header);
     }
+    case_of(ask, 0, word(header, right))
 }
 
 // value FLOW RECORD FIELD LENGTH
 fn read_value(header: &[u8]) -> Header {
+    if count_words(header) != 5 {
+        return wrong_words(5, header);
+    }
     let Number::Is(record) = read_asked(word(header, 3)) else {
-        return Header::Bad;
+        return Header::Bad(Fault::Record);
     };
     let Number::Is(field) = read_asked(word(header, 4)) else {
-        return Header::Bad;
+        return Header::Bad(Fault::Field);
     };
     case_of(
         Ask::Value {
             record: record,
             field: field,
         },
+        0,
         word(header, 5),
     )
 }
 
 // write FLOW ROOM LENGTH, read FLOW ROOM LENGTH
-fn read_transfer(header: &[u8]) -> Header {
+fn read_transfer(writes: bool, header: &[u8]) -> Header {
+    if count_words(header) != 4 {
+        return wrong_words(4, header);
+    }
     let Number::Is(room) = read_length(word(header, 3)) else {
-        return Header::Bad;
+        return Header::Bad(Fault::Room);
     };
-    let name = word(header, 1);
-    if same_bytes(name, b"write") {
-        return case_of(Ask::Write { room: room }, word(header, 4));
+    if writes {
+        return case_of(Ask::Write { room: room }, 0, word(header, 4));
     }
-    if same_bytes(name, b"read") {
-        return case_of(Ask::Read { room: room }, word(header, 4));
-    }
-    Header::Bad
+    case_of(Ask::Read { room: room }, 0, word(header, 4))
 }
 
 // field TYPE MARK FIXED LENGTH
 fn read_field(header: &[u8]) -> Header {
+    if count_words(header) != 5 {
+        return wrong_words(5, header);
+    }
     let Form::Is(form) = words::read_form(word(header, 2)) else {
-        return Header::Bad;
+        return Header::Bad(Fault::Type);
     };
     let Marked::Is(mark) = words::read_mark(word(header, 3)) else {
-        return Header::Bad;
+        return Header::Bad(Fault::Mark);
     };
     let Number::Is(fixed) = read_length(word(header, 4)) else {
-        return Header::Bad;
+        return Header::Bad(Fault::Fixed);
     };
-    let Number::Is(length) = read_length(word(header, 5)) else {
-        return Header::Bad;
-    };
-    Header::Case {
-        ask: Ask::Field {
+    case_of(
+        Ask::Field {
             form: form,
             mark: mark,
         },
-        fixed: fixed,
-        length: length,
-    }
+        fixed,
+        word(header, 5),
+    )
 }
 
-// A header by its first word, which says how many words it has.
+// The header ends in a carriage return.
+fn returns(header: &[u8]) -> bool {
+    if header.len() == 0 {
+        return false;
+    }
+    header[header.len() - 1] == b'\r'
+}
+
+// A header by its first word, which says what the others are. No word of ours holds a carriage return,
+// so that one at the end is always wrong; it is asked first, since it does not show.
 pub fn read(header: &[u8]) -> Header {
-    let count = record::count_fields(TAB, header);
+    if returns(header) {
+        return Header::Bad(Fault::CarriageReturn);
+    }
     let name = word(header, 1);
-    if count == 2 && same_bytes(name, b"sum") {
-        return case_of(Ask::Sum, word(header, 2));
+    if same_bytes(name, b"sum") {
+        return read_plain(Ask::Sum, 2, header);
     }
-    if count == 3 && same_bytes(name, b"judge") {
-        return case_of(Ask::Judge, word(header, 3));
+    if same_bytes(name, b"judge") {
+        return read_plain(Ask::Judge, 3, header);
     }
-    if count == 3 && same_bytes(name, b"step") {
-        return case_of(Ask::Step, word(header, 3));
+    if same_bytes(name, b"step") {
+        return read_plain(Ask::Step, 3, header);
     }
-    if count == 4 {
-        return read_transfer(header);
+    if same_bytes(name, b"write") {
+        return read_transfer(true, header);
     }
-    if count == 5 && same_bytes(name, b"value") {
+    if same_bytes(name, b"read") {
+        return read_transfer(false, header);
+    }
+    if same_bytes(name, b"value") {
         return read_value(header);
     }
-    if count == 5 && same_bytes(name, b"field") {
+    if same_bytes(name, b"field") {
         return read_field(header);
     }
-    Header::Bad
+    Header::Bad(Fault::NoCase)
 }

@@ -1,12 +1,15 @@
 -- The unread bytes of a window, kept by a read behind them and by a move to its front. Assumes nothing.
 use Prim.Native.Nat.{ℕ, zero, suc, _+_, _-_, _≤_, _<_, zero-le}
-use native.Mathlib.Nat.{zero-add, suc-add}
+use native.Mathlib.Nat.{zero-add, suc-add, sub-zero}
 use mathlib.Core.Path.{_≡_, refl, sym, _∙_, ap}
 use mathlib.Core.List.{List, [], _∷_}
 use native.Mathlib.Omega.{arith}
 use native.Mathlib.Numerals.{add-one}
 use lib.ListN.{length, take, drop, getD, set, length-drop}
 use lib.Seq.{paste, paste-suc, drop-paste, getD-drop}
+use Rattle.stream.specs.Window.{Grown, GrownBy}
+use Rattle.stream.specs.declared.input.Reading.{Reading}
+use Rattle.stream.specs.declared.input.Reading.the-variants.{Came, Ended, Full, Failed}
 
 take-nil : (k : ℕ) → take {A = ℕ} k [] ≡ []
 take-nil zero = refl
@@ -48,3 +51,19 @@ moved w from i h =
     ∙ ap (λ (k : ℕ). set (paste w 0 (drop from w) i) k (getD (drop from w) i 0)) (sym (zero-add i))
     ∙ paste-suc w 0 (drop from w) i 0 below inside
     ∙ ap (paste w 0 (drop from w)) (sym (add-one i))
+
+-- a read behind bytes that were moved to the front is a read behind them where they stood
+module _ (old mid new : List ℕ) (from to : ℕ) (moved : take (to - from) mid ≡ take (to - from) (drop from old)) where
+  grown-through : (from′ to′ : ℕ) → Grown mid 0 (to - from) new from′ to′ → Grown old from to new from′ to′
+  grown-through from′ to′ g = record {
+    ordered = g .ordered;
+    within = g .within;
+    longer = omega (arith, g .longer);
+    kept = rw sub-zero at (g .kept) ∙ moved;
+  }
+
+  pub through : (r : Reading) → GrownBy mid 0 (to - from) new r → GrownBy old from to new r
+  through (Came u) g = (grown-through (u .from) (u .to) (g .0), omega (arith, g .1))
+  through (Ended u) g = (grown-through (u .from) (u .to) (g .0), omega (arith, g .1))
+  through (Full u) g = (grown-through (u .from) (u .to) (g .0), omega (arith, g .1), g .2)
+  through Failed g = tt

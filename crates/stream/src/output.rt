@@ -1,55 +1,57 @@
-// Lines of words parted by tabs, each made in a local array and written by one call.
+// Standard output: lines of words parted by tabs, each made in a local array and written by one call.
+use crate::calls::write_whole;
+use crate::line::least;
+use crate::line::put;
+use crate::line::put_number;
 use judge::Verdict;
 use libc::STDOUT_FILENO;
 ghost use mathlib.Core.Path.{_≡_};
-ghost use Prim.Native.Nat.{_+_, _-_, _≤_, min};
-ghost use lib.ListN.{length};
+ghost use Prim.Native.Nat.{_≤_};
 ghost use lib.IntN.{natAbs};
-ghost use lib.Seq.{paste};
-ghost use Rattle.io.specs.Counts.{Counts};
+
+// Says so where standard output did not take all; errno is then that of the failed write.
+fn said(written: bool) -> bool {
+    if !written {
+        os::fail(b"can't write standard output");
+    }
+    written
+}
 
 // Writes bytes to standard output; where they can't all be written, that is said.
 pub fn print(bytes: &[u8]) -> bool {
-    if io::write_all(STDOUT_FILENO, bytes) {
-        return true;
-    }
-    os::fail(b"can't write standard output");
-    false
+    said(write_whole(STDOUT_FILENO, bytes))
 }
 
-// The smaller of two numbers.
-fn least(a: usize, b: usize) -> usize
-    ensures { λ r. ⌜ r ≡ min a b ⌝ }
-{
-    if a < b { a } else { b }
-}
-
-// Puts bytes into a line from place `at` on, as many as there is room for, and gives the place
-// behind them.
-fn put(line: &mut [u8], at: usize, s: &[u8]) -> usize
-    requires { ⌜ at ≤ length (now line) ⌝ }
-    ensures { λ r. ⌜ Counts r (now (line .exit)) ⌝ }
-    ensures { λ r. ⌜ now (line .exit) ≡ paste (now (line .entry)) at (now (s .entry)) (r - at) ⌝ }
-    ensures { λ r. ⌜ r ≡ at + min (length (now (s .entry))) (length (now (line .entry)) - at) ⌝ }
-{
-    let n = least(s.len(), line.len() - at);
-    let mut i = 0;
-    while i < n {
-        line[at + i] = s[i];
-        i += 1;
-    }
-    at + n
-}
-
-// Puts a tab and a number.
-fn put_number(line: &mut [u8], at: usize, n: usize) -> usize
-    requires { ⌜ at ≤ length (now line) ⌝ }
-    ensures { λ r. ⌜ Counts r (now (line .exit)) ⌝ }
-{
+// Writes a number to standard output.
+pub fn print_number(n: u64) -> bool {
     let mut digits = [0u8; 20];
-    let k = io::decimal(n as u64, &mut digits);
-    let behind = put(line, at, b"\t");
-    put(line, behind, &digits[..k])
+    let k = io::decimal(n, &mut digits);
+    print(&digits[..k])
+}
+
+// Writes at most 1,024 bytes as people can read them: each takes at most four.
+fn write_part_shown(fd: i32, part: &[u8]) -> bool {
+    let mut line = [0u8; 4096];
+    let n = words::show(part, &mut line);
+    write_whole(fd, &line[..n])
+}
+
+// Writes bytes as people can read them.
+pub fn write_shown(fd: i32, bytes: &[u8]) -> bool {
+    let mut at = 0;
+    while at < bytes.len() {
+        let end = at + least(1024, bytes.len() - at);
+        if !write_part_shown(fd, &bytes[at..end]) {
+            return false;
+        }
+        at = end;
+    }
+    true
+}
+
+// Writes bytes to standard output as people can read them.
+pub fn print_shown(bytes: &[u8]) -> bool {
+    said(write_shown(STDOUT_FILENO, bytes))
 }
 
 // Writes a line of a word and three numbers.

@@ -1,9 +1,11 @@
 -- Words and what they spell, computed. Assumes nothing.
 use mathlib.Core.Path.{_≡_, refl}
+use mathlib.Core.List.{[], _∷_}
 use Rattle.text.specs.Characters.{bytes, isDigit}
 use Rattle.record.specs.Records.{fields, onto, field}
 use Rattle.field.specs.declared.FieldType.the-variants.{Text, Int, Dec, Date, Null}
 use Rattle.words.specs.Spelling.{isNumber, numberOf, bracketed, closed, decOf, wideOf, formOf}
+use Rattle.words.specs.Shown.{isPlain, hexDigit, shownByte, shown, fitting}
 use Rattle.words.specs.declared.Number.the-variants as numbers
 use Rattle.words.specs.declared.Form.the-variants.{Is, Bad}
 
@@ -25,3 +27,10 @@ no-types = (refl, refl, refl, refl, refl, refl, refl, refl)
 pub limits : (numberOf 3 256 (bytes "256") ≡ numbers.Is 256) × (numberOf 3 256 (bytes "257") ≡ numbers.Bad) × (numberOf 3 256 (bytes "0012") ≡ numbers.Bad)
 unfolding numberOf isNumber isDigit
 limits = (refl, refl, refl)
+
+-- a byte and the characters that name it are shown apart, and a byte that has not room for all its four is left out
+pub shown-bytes :
+    (shown (0x41 ∷ 0x0D ∷ []) ≡ bytes "A\\x0d") × (shown (bytes "\\x0d") ≡ bytes "\\x5cx0d") × (shown (bytes "`|~") ≡ bytes "\\x60|~")
+    × (shown (0x7F ∷ 0xFF ∷ 0 ∷ []) ≡ bytes "\\x7f\\xff\\x00") × (fitting 4 (0x41 ∷ 0x0D ∷ 0x42 ∷ []) ≡ bytes "A")
+unfolding shown fitting shownByte isPlain hexDigit
+shown-bytes = (refl, refl, refl, refl, refl)

@@ -1,6 +1,10 @@
-// The words that people write: one of several, a number, a type in document 01's spelling, a mark.
+// The words that people write: one of several, a number, a type in document 01's spelling, a mark. And
+// bytes as people can read them.
+mod legible;
+
 use field::FieldType;
 use field::Mark;
+pub use legible::show;
 use record::Found;
 use text::same_bytes;
 ghost use mathlib.Core.Path.{_≡_};

@@ -10,17 +10,20 @@ use Rattle.nightly.proofs.main.Tie as tie
 filled : (n : ℕ) → n ≡ length {A = ℕ} (replicate n 0)
 filled n = sym (length-replicate n 0)
 
-slice-aggregate-run : tie.Need-slice-aggregate-run
-slice-aggregate-run c = filled 2293760
+slice-aggregate-go-through : tie.Need-slice-aggregate-go-through
+slice-aggregate-go-through c = filled 2293760
 
-slice-aggregate-run-2 : tie.Need-slice-aggregate-run-2
-slice-aggregate-run-2 c = filled 1114112
+slice-aggregate-go-through-2 : tie.Need-slice-aggregate-go-through-2
+slice-aggregate-go-through-2 c = filled 1114112
 
-run-requires : tie.Need-run-requires
-run-requires c κs = search needs
+go-through-requires : tie.Need-go-through-requires
+go-through-requires c κs = search needs
+
+end-requires : tie.Need-end-requires
+end-requires c κs = search needs
 
 returns : tie.Need-returns
 returns c = search needs
 
 pub main-spec : {M : Type 1} → statement M
-main-spec = tie.close (tie.spec slice-aggregate-run slice-aggregate-run-2 run-requires returns)
+main-spec = tie.close (tie.spec slice-aggregate-go-through slice-aggregate-go-through-2 go-through-requires end-requires returns)

@@ -24,24 +24,39 @@ enum-known-n c = search needs
 
 -- a case takes no more than the unread bytes
 taken : (c : tie.After-known-told) →
-    let a = c .before .before .before .before .before .before .before .before .before .before .before .args in
-    c .before .n .given .0 .0 ≤ length (take (a .u .to - a .u .from) (drop (a .u .from) (now (a .window))))
+    let a = c .before .before .before .before .before .before .before .before .before .before .before .before .args in
+    c .before .n .given .0 .0 ≤ length (take (a .run .unread .to - a .run .unread .from) (drop (a .run .unread .from) (now (a .window))))
 taken c = rw (c .before .n .given .1) at (c .before .before .before .before .before .answer-first .ensures)
 
-add-t15 : tie.Need-add-t15
-add-t15 c = omega (arith, simp (length-take, length-drop) at (taken c))
+add-t18 : tie.Need-add-t18
+add-t18 c = omega (arith, simp (length-take, length-drop) at (taken c))
 
-enum-told : tie.Need-enum-told
-enum-told c = search needs
+past-requires : tie.Need-past-requires
+past-requires c κs = search needs
+
+enum-known-lack : tie.Need-enum-known-lack
+enum-known-lack c = search needs
 
 read-more-requires : tie.Need-read-more-requires
 read-more-requires c κs = search needs
 
-enum-told-2 : tie.Need-enum-told-2
-enum-told-2 c = search needs
+enum-known-fault : tie.Need-enum-known-fault
+enum-known-fault c = search needs
 
-bad-header-requires : tie.Need-bad-header-requires
-bad-header-requires c κs = search needs
+sub-end-broken : tie.Need-sub-end-broken
+sub-end-broken c = search needs
+
+part-end-broken-start : tie.Need-part-end-broken-start
+part-end-broken-start c = search needs
+
+part-end-broken-end : tie.Need-part-end-broken-end
+part-end-broken-end c = search needs
+
+end-broken-requires : tie.Need-end-broken-requires
+end-broken-requires c κs = search needs
+
+enum-told : tie.Need-enum-told
+enum-told c = search needs
 
 same-length : tie.Need-same-length
 same-length c = search needs
@@ -50,7 +65,7 @@ same-length-2 : tie.Need-same-length-2
 same-length-2 c = search needs
 
 returns : tie.Need-returns
-returns c = omega (arith, simp (length-take, length-drop) at (taken c))
+returns c = omega (arith, simp (length-take, length-drop) at (taken (c .before)))
 
 same-length-3 : tie.Need-same-length-3
 same-length-3 c = search needs
@@ -70,6 +85,15 @@ same-length-6 c = search needs
 returns-3 : tie.Need-returns-3
 returns-3 c = search needs
 
+same-length-7 : tie.Need-same-length-7
+same-length-7 c = search needs
+
+same-length-8 : tie.Need-same-length-8
+same-length-8 c = search needs
+
+returns-4 : tie.Need-returns-4
+returns-4 c = search needs
+
 pub one-turn-spec : {M : Type 1} → statement M
 one-turn-spec =
     tie.close
@@ -79,11 +103,16 @@ one-turn-spec =
     part-answer-first-end
     answer-first-requires
     enum-known-n
-    add-t15
-    enum-told
+    add-t18
+    past-requires
+    enum-known-lack
     read-more-requires
-    enum-told-2
-    bad-header-requires
+    enum-known-fault
+    sub-end-broken
+    part-end-broken-start
+    part-end-broken-end
+    end-broken-requires
+    enum-told
     same-length
     same-length-2
     returns
@@ -92,4 +121,7 @@ one-turn-spec =
     returns-2
     same-length-5
     same-length-6
-    returns-3)
+    returns-3
+    same-length-7
+    same-length-8
+    returns-4)

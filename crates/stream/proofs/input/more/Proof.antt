@@ -1,6 +1,6 @@
 -- `more` is right: a move to the front keeps the unread bytes, and so does a read behind them.
-use mathlib.Core.Path.{_∙_}
-use native.Mathlib.Nat.{sub-zero}
+use denote.Ref.{now}
+use Rattle.stream.proofs.Moves.{through}
 use borrow.Author.Needs.{needs}
 use Rattle.stream.proofs.input.more.Statement.{statement}
 use Rattle.stream.proofs.input.more.Tie as tie
@@ -25,13 +25,10 @@ same-length-2 c = search needs
 
 returns-2 : tie.Need-returns-2
 returns-2 c =
+    let r = c .before .before .read-on2 in
     let f = c .before .before .before .before .before .before .to-front in
-    record {
-      ordered = search needs;
-      within = search needs;
-      longer = search needs;
-      kept = rw (f .ensures .0 .0, f .ensures .0 .1, sub-zero) at (c .before .before .read-on2 .ensures .kept) ∙ f .ensures .1;
-    }
+    let a = c .before .before .before .before .before .before .before .before .before .before .before .before .args in
+    through (now (a .window)) _ _ (a .u .from) (a .u .to) (f .ensures .1) (r .result) (rw (f .ensures .0 .0, f .ensures .0 .1) at (r .ensures))
 
 pub more-spec : {M : Type 1} → statement M
 more-spec =

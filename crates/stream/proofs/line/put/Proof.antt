@@ -8,8 +8,8 @@ use native.Mathlib.Numerals.{add-one}
 use lib.ListN.{length, getD, set, length-set}
 use lib.Seq.{paste, paste-zero, paste-suc, length-take-le}
 use borrow.Author.Needs.{needs}
-use Rattle.stream.proofs.output.put.Statement.{statement}
-use Rattle.stream.proofs.output.put.Tie as tie
+use Rattle.stream.proofs.line.put.Statement.{statement}
+use Rattle.stream.proofs.line.put.Tie as tie
 
 abbrev Inv-loop : tie.InvT-loop
 Inv-loop line₀ at s n i₀ line i = (i ≤ n) × (length line ≡ length line₀) × (line ≡ paste line₀ at s i)
@@ -68,7 +68,7 @@ returns c =
     let fits : a .at + n ≤ length (l .line) = omega arith in
     let all : l .i ≡ a .at + n - a .at = omega arith in (
       (fits, sym (length-take-le (a .at + n) (l .line) fits)),
-      (l .inv .2 ∙ ap (paste (now (a .line)) (a .at) (now (a .s))) all, ap (λ (k : ℕ). a .at + k) (c .before .before .least .ensures)),
+      (l .inv .2 ∙ ap (paste (now (a .line)) (a .at) (now (a .s))) all, ap (λ (k : ℕ). a .at + k) (c .before .before .least .ensures .0)),
     )
 
 pub put-spec : {M : Type 1} → statement M
