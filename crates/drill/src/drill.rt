@@ -1,6 +1,7 @@
 // A good file spoiled: one byte at a time is made another, the file is judged, and the byte is put back.
 use judge::Verdict;
-use libc::STDERR_FILENO;
+use stream::tell;
+use stream::tell_number;
 ghost use mathlib.Core.Path.{_≡_};
 ghost use Prim.Native.Nat.{_+_, _*_, _^_, _≤_, _<_};
 ghost use lib.ListN.{length};
@@ -12,10 +13,11 @@ pub struct Plan {
     pub bytes: usize,
 }
 
-// How many spoiled files were refused, and how many passed.
+// How many spoiled files were refused, and how many passed; and whether each that passed was printed.
 pub struct Tally {
     pub refused: u64,
     pub passed: u64,
+    pub written: bool,
 }
 
 // Up to 2,048 bytes each place by all 255 other bytes; above that between 1,024 and 2,048 places,
@@ -55,21 +57,27 @@ fn other(b: u8, d: usize) -> u8
     ((b as usize + d % 256) % 256) as u8
 }
 
-// Counts a spoiled file, and says at which place and by which byte it passed, if it did.
+// Says at which place and by which byte a spoiled file passed. Where one could not be printed, no other is tried.
+fn print_passed(t: Tally, at: usize, b: u8) -> bool {
+    t.written && stream::print_numbers(b"PASSED", at, b as usize, 0)
+}
+
+// Counts a spoiled file, and says where it passed, if it did.
 fn count(t: Tally, passed: bool, at: usize, b: u8) -> Tally
     requires { ⌜ t .refused + t .passed < 2 ^ 63 ⌝ }
     ensures { λ r. ⌜ Counted (t .refused) (t .passed) passed (r .refused) (r .passed) ⌝ }
 {
     if passed {
-        stream::print_numbers(b"PASSED", at, b as usize, 0);
         return Tally {
             refused: t.refused,
             passed: t.passed + 1,
+            written: print_passed(t, at, b),
         };
     }
     Tally {
         refused: t.refused + 1,
         passed: t.passed,
+        written: t.written,
     }
 }
 
@@ -111,15 +119,15 @@ fn spoil_place(flow: &[u8], file: &mut [u8], at: usize, p: Plan, so_far: Tally) 
 // Says on standard error how far the drill is, at every 64th place.
 fn progress(turn: usize, at: usize, size: usize) {
     if turn % 64 == 0 {
-        io::write_all(STDERR_FILENO, b"drill: place ");
-        io::print_decimal(STDERR_FILENO, at as u64);
-        io::write_all(STDERR_FILENO, b" of ");
-        io::print_decimal(STDERR_FILENO, size as u64);
-        io::write_all(STDERR_FILENO, b"\n");
+        tell(b"drill: place ");
+        tell_number(at as u64);
+        tell(b" of ");
+        tell_number(size as u64);
+        tell(b"\n");
     }
 }
 
-// Spoils a good file at the places that the plan names.
+// Spoils a good file at the places that the plan names; it stops where a file that passed can't be printed.
 pub fn spoil_all(flow: &[u8], file: &mut [u8], p: Plan) -> Tally
     requires { ⌜ (0 < p .places) × (0 < p .bytes) ⌝ }
     requires { ⌜ length (now file) ≤ 1048576 ⌝ }
@@ -129,11 +137,15 @@ pub fn spoil_all(flow: &[u8], file: &mut [u8], p: Plan) -> Tally
     let mut t = Tally {
         refused: 0,
         passed: 0,
+        written: true,
     };
     let mut at = 0;
     while at < file.len() {
         progress(at / p.places, at, file.len());
         t = spoil_place(flow, file, at, p, t);
+        if !t.written {
+            return t;
+        }
         if file.len() - at <= p.places {
             return t;
         }

@@ -21,7 +21,7 @@ print-numbers-requires c κs = search needs
 
 run-requires : tie.Need-run-requires
 run-requires c κs =
-    let r = c .before .before .before .before in
+    let r = c .before .before .before .before .before in
     let j = r .before .before in
     let a = j .before .before .before .before .args in
     good-fits (now (a .flow)) (now (a .file)) (r .records .given .0 .0) (sym (j .judge .ensures) ∙ ap paper (r .records .given .1))
@@ -29,11 +29,8 @@ run-requires c κs =
 enum-known-number : tie.Need-enum-known-number
 enum-known-number c = search needs
 
-slice-aggregate-print-numbers-2 : tie.Need-slice-aggregate-print-numbers-2
-slice-aggregate-print-numbers-2 c = search needs
-
-print-numbers-requires-2 : tie.Need-print-numbers-requires-2
-print-numbers-requires-2 c κs = search needs
+not-good-requires : tie.Need-not-good-requires
+not-good-requires c κs = search needs
 
 same-length : tie.Need-same-length
 same-length c = search needs
@@ -47,6 +44,12 @@ same-length-2 c = search needs
 returns-2 : tie.Need-returns-2
 returns-2 c = search needs
 
+same-length-3 : tie.Need-same-length-3
+same-length-3 c = search needs
+
+returns-3 : tie.Need-returns-3
+returns-3 c = search needs
+
 pub drill-file-spec : {M : Type 1} → statement M
 drill-file-spec =
     tie.close
@@ -57,9 +60,10 @@ drill-file-spec =
     print-numbers-requires
     run-requires
     enum-known-number
-    slice-aggregate-print-numbers-2
-    print-numbers-requires-2
+    not-good-requires
     same-length
     returns
     same-length-2
-    returns-2)
+    returns-2
+    same-length-3
+    returns-3)

@@ -16,8 +16,11 @@ slice-aggregate-start c = filled 1048577
 start-requires : tie.Need-start-requires
 start-requires c κs = search needs
 
+end-requires : tie.Need-end-requires
+end-requires c κs = search needs
+
 returns : tie.Need-returns
 returns c = search needs
 
 pub main-spec : {M : Type 1} → statement M
-main-spec = tie.close (tie.spec slice-aggregate-start start-requires returns)
+main-spec = tie.close (tie.spec slice-aggregate-start start-requires end-requires returns)

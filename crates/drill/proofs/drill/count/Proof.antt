@@ -4,22 +4,19 @@ use borrow.Author.Needs.{needs}
 use Rattle.drill.proofs.drill.count.Statement.{statement}
 use Rattle.drill.proofs.drill.count.Tie as tie
 
-slice-aggregate-print-numbers : tie.Need-slice-aggregate-print-numbers
-slice-aggregate-print-numbers c = search needs
+add-t6 : tie.Need-add-t6
+add-t6 c = search needs
 
-print-numbers-requires : tie.Need-print-numbers-requires
-print-numbers-requires c κs = search needs
-
-add-t11 : tie.Need-add-t11
-add-t11 c = search needs
+print-passed-requires : tie.Need-print-passed-requires
+print-passed-requires c κs = search needs
 
 returns : tie.Need-returns
 returns c =
-    let good = c .before .before .before .if1 .taken in
+    let good = c .before .before .if1 .taken in
     record { refusals = rw good (omega arith); passes = rw good }
 
-add-t12 : tie.Need-add-t12
-add-t12 c = search needs
+add-t8 : tie.Need-add-t8
+add-t8 c = search needs
 
 returns-2 : tie.Need-returns-2
 returns-2 c =
@@ -27,12 +24,4 @@ returns-2 c =
     record { refusals = rw good; passes = rw good (omega arith) }
 
 pub count-spec : {M : Type 1} → statement M
-count-spec =
-    tie.close
-    (tie.spec
-    slice-aggregate-print-numbers
-    print-numbers-requires
-    add-t11
-    returns
-    add-t12
-    returns-2)
+count-spec = tie.close (tie.spec add-t6 print-passed-requires returns add-t8 returns-2)

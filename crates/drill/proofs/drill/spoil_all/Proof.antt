@@ -25,14 +25,20 @@ progress-requires c κs = search needs
 spoil-place-requires : tie.Need-spoil-place-requires Inv-loop μ-loop
 spoil-place-requires c κs = search needs
 
-sub-if1 : tie.Need-sub-if1 Inv-loop μ-loop
-sub-if1 c = search needs
-
 same-length : tie.Need-same-length Inv-loop μ-loop
 same-length c = search needs
 
 returns : tie.Need-returns Inv-loop μ-loop
 returns c = search needs
+
+sub-if2 : tie.Need-sub-if2 Inv-loop μ-loop
+sub-if2 c = search needs
+
+same-length-2 : tie.Need-same-length-2 Inv-loop μ-loop
+same-length-2 c = search needs
+
+returns-2 : tie.Need-returns-2 Inv-loop μ-loop
+returns-2 c = search needs
 
 add-at : tie.Need-add-at Inv-loop μ-loop
 add-at c = search needs
@@ -42,15 +48,15 @@ loop-less c = search needs
 
 loop-again : tie.Need-loop-again Inv-loop μ-loop
 loop-again c =
-    let s = c .before .before .before .before .before .spoil-place in
-    let same = s .ensures .0 ∙ c .before .before .before .before .before .before .before .before .before .before .loop .inv .0 in
+    let s = c .before .before .before .before .before .before .before .spoil-place in
+    let same = s .ensures .0 ∙ c .before .before .before .before .before .before .before .before .before .before .before .before .loop .inv .0 in
     (same, ap length same, search needs, search needs)
 
-same-length-2 : tie.Need-same-length-2 Inv-loop μ-loop
-same-length-2 c = search needs
+same-length-3 : tie.Need-same-length-3 Inv-loop μ-loop
+same-length-3 c = search needs
 
-returns-2 : tie.Need-returns-2 Inv-loop μ-loop
-returns-2 c = search needs
+returns-3 : tie.Need-returns-3 Inv-loop μ-loop
+returns-3 c = search needs
 
 pub spoil-all-spec : {M : Type 1} → statement M
 spoil-all-spec =
@@ -62,11 +68,13 @@ spoil-all-spec =
     div-progress
     progress-requires
     spoil-place-requires
-    sub-if1
     same-length
     returns
+    sub-if2
+    same-length-2
+    returns-2
     add-at
     loop-less
     loop-again
-    same-length-2
-    returns-2)
+    same-length-3
+    returns-3)
