@@ -3,14 +3,12 @@ use crate::arguments;
 use crate::asking;
 use crate::judging;
 use crate::making;
-use libc::STDERR_FILENO;
 use stream::Ending;
 use text::same_bytes;
 
 // Says how the rig is called.
 fn usage() -> Ending {
-    io::write_all(
-        STDERR_FILENO,
+    stream::tell(
         b"rig: no such command, or too few or too many words\nusage:\n  rig judge FLOW FILE..\n  rig write FLOW SHEET OUT [--over]\n  rig read FLOW FILE OUT [--over]\n  rig value FLOW FILE RECORD FIELD\n  rig field TYPE [MARK] BYTES     as: rig field 'dec(4,1)' opt 5.0, rig field 'text(1)' =Z Z\n  rig sum FILE\n  rig step FLOW KINDS             as: rig step P0138001 ZHDSUB\n  rig explain NUMBER\n",
     );
     Ending::Hindered
