@@ -59,7 +59,7 @@ pub fn say_return(s: &[u8]) -> bool {
     true
 }
 
-// The same of a field, or of a kind.
+// What was found as a field or a kind; a carriage return at its end is named.
 pub fn found_field(s: &[u8]) -> bool {
     found(s) && say_return(s)
 }
