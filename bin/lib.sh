@@ -1,12 +1,10 @@
-# Read by the commands in bin/: the kit, the crates, and how a built program is run. POSIX sh.
-# A command that reads this file stands in the top folder of the repository.
+# Read by the commands in bin/, behind launch.sh: the kit, the crates, and what is built of them. POSIX sh.
 # shellcheck shell=sh
+top=${home%/*}
+[ -z "${RATTLE_HOME:-}" ] || RATTLE_HOME=$(readlink -f -- "$RATTLE_HOME")
 
-say() { printf '%s\n' "$*" >&2; }
-die() { say "$*"; exit 2; }
-
-# Sets rt (the kit's command) and tools (its folder for this machine). RATTLE_HOME overrides the kit
-# that stands behind the rt on PATH.
+# Sets rt (the kit's command) and tools (its folder for this machine), and what programs run under. RATTLE_HOME overrides the
+# kit that stands behind the rt on PATH.
 find_kit() {
     if [ -n "${RATTLE_HOME:-}" ]; then
         rt=$RATTLE_HOME/bin/rt
@@ -17,6 +15,16 @@ find_kit() {
     tools=$kit/on/$(uname -m)/toolchain
     [ -x "$rt" ] || die "no kit at $kit: it has no bin/rt"
     [ -d "$tools" ] || die "the kit at $kit has nothing for this machine, $(uname -m)"
+    system=$tools/lib emulator=$tools/bin/qemu-x86_64
+    [ -x "$emulator" ] || emulator=''
+}
+
+# The commit, whether the tree differs from it, and the sum of the prover.
+built_from() {
+    commit=$(git -c safe.directory="$top" -C "$top" rev-parse --short=12 HEAD 2>/dev/null) || commit=unknown
+    changes=$(git --no-optional-locks -c safe.directory="$top" -C "$top" status --porcelain 2>/dev/null | head -n 1)
+    sum=$(find_kit 2>/dev/null && "$rt" version) || sum=unknown
+    printf '%s, proved by logic %s\n' "$commit${changes:+, changed}" "${sum##* }"
 }
 
 # True where crates.txt lists the crate.
@@ -24,31 +32,37 @@ listed() { # NAME
     NAME=$1 awk '
         { sub(/#.*/, ""); at = index($0, ":"); name = substr($0, 1, at - 1); gsub(/[ \t]/, "", name) }
         name == ENVIRON["NAME"] { found = 1 }
-        END { exit !found }' crates.txt
+        END { exit !found }' "$top/crates.txt"
 }
 
-# Proves and builds a program where target/ has none, or has one older than the sources. What rt says
-# goes to standard error: standard output is the program's.
+# True where the file is there, and no file below the others is newer.
+fresh() { # FILE SOURCE...
+    built=$1
+    shift
+    [ -f "$built" ] && [ -z "$(find "$@" -type f -newer "$built" | head -n 1)" ]
+}
+
+# Sets program, which is proved and built where target/ has none, or has one older than the sources. What rt says goes to
+# standard error: standard output is the program's. A program that rt left as it was is then as new as the sources.
 build_program() { # NAME
+    program=$top/target/bin/$1
     listed "$1" || die "$1 is not built yet: crates.txt has no such crate"
-    if [ -x "target/bin/$1" ] && [ -z "$(find crates crates.txt -type f -newer "target/bin/$1" | head -n 1)" ]; then return; fi
-    "$rt" check "$1" >&2 </dev/null || die "$1 was not run: it is not proved and built"
-    [ -x "target/bin/$1" ] || die "rt left no target/bin/$1: remove target/ and try again"
+    ! fresh "$program" "$top/crates" "$top/crates.txt" || return 0
+    (cd "$top" && "$rt" check "$1" >&2 </dev/null) || die "$1 was not run: it is not proved and built"
+    [ -x "$program" ] || die "rt left no target/bin/$1: remove target/ and try again"
+    touch "$program"
 }
 
 # Builds the second program, where it is not built or older than its sources.
-second=second/target/release/second
+second=$top/second/target/release/second
 build_second() {
-    cargo build --quiet --release --offline --manifest-path second/Cargo.toml --target-dir second/target || die "the second program was not built"
+    ! fresh "$second" "$top/second/src" "$top/second/Cargo.toml" "$top/second/Cargo.lock" || return 0
+    cargo build --quiet --release --offline --manifest-path "$top/second/Cargo.toml" --target-dir "$top/second/target" \
+        || die "the second program was not built"
+    touch "$second"
 }
 
-# Runs a built program. Programs are for x86-64 and run under the kit's own loader and C library; on
-# another processor the kit has an emulator beside its compiler, which takes no setting from outside.
-run_program() { # PATH [ARGUMENT...]
-    (
-        emulator=$tools/bin/qemu-x86_64
-        [ -x "$emulator" ] || emulator=''
-        for setting in $(env | sed -n 's/^\(QEMU_[A-Za-z0-9_]*\)=.*/\1/p'); do unset "$setting"; done
-        exec ${emulator:+"$emulator"} "$tools/lib/ld-linux-x86-64.so.2" --library-path "$tools/lib" "$@"
-    )
+# Prints a folder for what is kept of a run: one under target/, or a new one elsewhere where that can't be written to.
+keeping() { # FOLDER
+    if mkdir -p "$1" 2>/dev/null && [ -w "$1" ]; then printf '%s\n' "$1"; else mktemp -d; fi
 }

@@ -8,6 +8,7 @@ mod input;
 mod line;
 mod output;
 
+pub use calls::write_whole;
 pub use complaint::complain;
 pub use complaint::complain_of;
 pub use complaint::tell;
