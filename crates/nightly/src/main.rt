@@ -93,12 +93,12 @@ fn answer_first(s: &[u8], room: &mut [u8]) -> First
     }
 }
 
-// Ends a run whose stream is broken: what is wrong with the case that some bytes begin with.
+// Ends a run whose stream is broken: says what is wrong with the case that some bytes begin with. The
+// run is hindered whether or not its last line is written.
 fn end_broken(place: Place, fault: Fault, s: &[u8]) -> Ending {
-    if stream::print(b"bad header\n") {
-        let n = line_length(s);
-        broken::tell_broken(place, fault, header::word(&s[0..n], 1));
-    }
+    stream::print(b"bad header\n");
+    let n = line_length(s);
+    broken::tell_broken(place, fault, header::word(&s[0..n], 1));
     Ending::Hindered
 }
 

@@ -1,13 +1,13 @@
 // The rig: one program for people at the bench. It prints the answer's line and, for a refusal, a
-// sentence on it. What hinders a call is said on standard error, and then nothing is printed.
-mod command;
-mod explain;
-mod files;
-mod found;
-mod say;
+// sentence on it. What hinders a call is said on standard error.
+mod arguments;
+mod asking;
+mod call;
+mod judging;
+mod making;
 
 // One byte more than a file may have, so that a file that is too long shows.
 fn main() {
     let mut room = [0u8; 1048577];
-    command::run(&mut room);
+    stream::end(call::run(&mut room));
 }

@@ -1,0 +1,66 @@
+-- `step_by` is safe: the kinds that may follow are few, so that their names stand in the lent bytes.
+use denote.Ref.{now}
+use Rattle.flow.specs.Flows.{flowNumber}
+use Rattle.stream.proofs.Follow.{follow-few}
+use borrow.Author.Needs.{needs}
+use Rattle.rig.proofs.asking.step_by.Statement.{statement}
+use Rattle.rig.proofs.asking.step_by.Tie as tie
+
+step-requires : tie.Need-step-requires
+step-requires c κs = search needs
+
+enum-known-number : tie.Need-enum-known-number
+enum-known-number c = search needs
+
+cast-t13 : tie.Need-cast-t13
+cast-t13 c = search needs
+
+slice-aggregate-refuse : tie.Need-slice-aggregate-refuse
+slice-aggregate-refuse c = search needs
+
+refuse-requires : tie.Need-refuse-requires
+refuse-requires c κs = search needs
+
+enum-known-place : tie.Need-enum-known-place
+enum-known-place c = search needs
+
+stop-requires : tie.Need-stop-requires
+stop-requires c κs = search needs
+
+enum-known-count : tie.Need-enum-known-count
+enum-known-count c = search needs
+
+print-follow-requires : tie.Need-print-follow-requires
+print-follow-requires c κs =
+    let told = rw (c .before .before .count .given .1) at (c .before .before .before .before .step .ensures) in
+    follow-few (flowNumber (now (c .before .before .before .before .before .before .before .before .args .flow))) (told .1)
+
+well-requires : tie.Need-well-requires
+well-requires c κs = search needs
+
+returns : tie.Need-returns
+returns c = search needs
+
+returns-2 : tie.Need-returns-2
+returns-2 c = search needs
+
+returns-3 : tie.Need-returns-3
+returns-3 c = search needs
+
+pub step-by-spec : {M : Type 1} → statement M
+step-by-spec =
+    tie.close
+    (tie.spec
+    step-requires
+    enum-known-number
+    cast-t13
+    slice-aggregate-refuse
+    refuse-requires
+    enum-known-place
+    stop-requires
+    enum-known-count
+    print-follow-requires
+    well-requires
+    returns
+    returns-2
+    returns-3)

@@ -1,0 +1,272 @@
+// The sentence on a refusal of a file or a sheet: where it is, the rule, what was found and what would be
+// right. In a file bars part the fields, in a sheet tabs.
+use crate::form;
+use crate::kinds;
+use crate::kinds::kind_at;
+use crate::place;
+use crate::place::Refusal;
+use crate::refusals;
+use crate::say;
+use judge::Verdict;
+use record::Cursor;
+use record::Found;
+use record::Step;
+use stream::print;
+ghost use mathlib.Core.Path.{_≡_};
+ghost use Prim.Native.Nat.{ℕ};
+ghost use mathlib.Core.List.{List};
+ghost use Rattle.layout.specs.Numbers.{layoutOf};
+ghost use Rattle.sentences.specs.Footer.{footerLine};
+
+const FEED: u8 = 0x0A;
+
+const TAB: u8 = 0x09;
+
+const BAR: u8 = 0x7C;
+
+// The set of all kinds.
+const ALL: usize = 0xFFFFFFFF;
+
+// The kinds that may stand as record n, by the one before it.
+fn say_followers(t: &[u32], sep: u8, file: &[u8], n: usize) -> bool {
+    if n == 0 {
+        return true;
+    }
+    kinds::say_followers(t, kind_at(t, sep, file, n - 1))
+}
+
+// What field k of a kind should be.
+fn say_rule(t: &[u32], fixed: &[u8], kind: usize, k: usize, number: usize) -> bool {
+    if k < 2 {
+        return true;
+    }
+    let rules = layout::rules_of(t, kind);
+    if rules.count <= k - 2 {
+        return true;
+    }
+    let p = rules.place + 3 * (k - 2);
+    let form = layout::type_at(t, p);
+    let mark = layout::mark_at(t, p);
+    let value = layout::fixed_at(t, fixed, p);
+    form::right_field(number, form, mark, value)
+}
+
+// How many fields there are, and how many there should be.
+fn say_field_count(t: &[u32], sep: u8, kind: usize, r: &[u8]) -> bool {
+    let rules = layout::rules_of(t, kind);
+    let right = rules.count + 1;
+    print(b"; found ")
+        && say::number(record::count_fields(sep, r))
+        && print(b" fields, and ")
+        && print(&layout::name_of(t, kind))
+        && print(b" has ")
+        && say::number(right)
+}
+
+// The last record of a kind before record n; no bytes where there is none.
+fn last_of_kind<'a>(t: &[u32], sep: u8, file: &'a [u8], kind: usize, n: usize) -> &'a [u8] {
+    let mut c = Cursor { at: 0 };
+    let mut left = n;
+    let mut from = 0;
+    let mut to = 0;
+    while 1 < left {
+        match c.step(file) {
+            Step::Done => {
+                return text::part(file, 0, 0);
+            }
+            Step::Record { start, end, next } => {
+                if fault::kind_of(t, sep, text::part(text::part(file, 0, end), start, end))
+                    == kind
+                {
+                    from = start;
+                    to = end;
+                }
+                left -= 1;
+                c = next;
+            }
+        }
+    }
+    text::part(text::part(file, 0, to), from, to)
+}
+
+// The key that the one of the refused record should be above.
+fn say_key_before(t: &[u32], sep: u8, file: &[u8], kind: usize, r: Refusal) -> bool {
+    let last = last_of_kind(t, sep, file, kind, r.record);
+    print(b"; the key before is ") && say::quoted(words::part(sep, last, r.field))
+}
+
+// Where line n starts; the end of the file where there is none.
+fn start_of(file: &[u8], n: usize) -> usize {
+    match record::field_at(FEED, file, n) {
+        Found::At { start, end: _ } => start,
+        Found::Nothing => file.len(),
+    }
+}
+
+// What stands where the refusal is. A sheet's footer is the writer's.
+fn say_found(sep: u8, file: &[u8], r: Refusal) -> bool {
+    if file.len() <= start_of(file, r.record) {
+        return print(b"; found the footer that the writer adds");
+    }
+    say::found_field(words::part(sep, words::part(FEED, file, r.record), r.field))
+}
+
+// The count or checksum that would be right. A sheet has no footer of its own.
+fn say_right(sep: u8, file: &[u8], r: Refusal) -> bool {
+    if sep == TAB {
+        return true;
+    }
+    if r.number == 12 {
+        return print(b"; right is ") && say::number(r.record);
+    }
+    let before = text::part(file, 0, start_of(file, r.record));
+    print(b"; right is ") && say::number(record::checksum(before) as usize)
+}
+
+// A file or sheet over its limit is read no further than a byte over the file's.
+fn say_size(file: &[u8]) -> bool {
+    if 1048576 < file.len() {
+        return print(b"; found more than 1,048,576 bytes");
+    }
+    print(b"; found ") && say::number(file.len()) && print(b" bytes")
+}
+
+// What was found and what would be right, for a refusal of a record as a whole.
+fn say_shape(t: &[u32], sep: u8, file: &[u8], r: Refusal) -> bool {
+    let line = words::part(FEED, file, r.record);
+    let number = r.number;
+    match number {
+        3 => {
+            print(b"; found ")
+                && say::number(line.len())
+                && print(b" bytes")
+                && say::say_return(line)
+        }
+        4 => {
+            say_found(sep, file, r) && print(b"; the flow's kinds are:") && kinds::say_kinds(t, ALL)
+        }
+        5 => say_found(sep, file, r) && say_followers(t, sep, file, r.record),
+        _ => say_field_count(t, sep, fault::kind_of(t, sep, line), line),
+    }
+}
+
+// The same for a refusal of a field.
+fn say_field(t: &[u32], fixed: &[u8], sep: u8, file: &[u8], r: Refusal) -> bool {
+    let kind = kind_at(t, sep, file, r.record);
+    if !say_found(sep, file, r) {
+        return false;
+    }
+    let number = r.number;
+    match number {
+        11 => say_key_before(t, sep, file, kind, r),
+        12 | 13 => say_right(sep, file, r),
+        _ => say_rule(t, fixed, kind, r.field, number),
+    }
+}
+
+// The same for any refusal but 18, by the flow's table.
+fn say_details(t: &[u32], fixed: &[u8], sep: u8, file: &[u8], r: Refusal) -> bool {
+    let number = r.number;
+    match number {
+        2 => say_size(file),
+        3 | 4 | 5 | 6 => say_shape(t, sep, file, r),
+        7 | 8 | 9 | 10 | 11 | 12 | 13 => say_field(t, fixed, sep, file, r),
+        14 => say_followers(t, sep, file, r.record),
+        16 => say::found(words::part(FEED, file, r.record)),
+        _ => true,
+    }
+}
+
+// Line n of a sheet is a ZPT line.
+fn is_footer_line(t: &[u32], sep: u8, file: &[u8], n: usize) -> bool
+    ensures { λ r. ⌜ ((fixed : List ℕ) → r ≡ footerLine sep (layoutOf (now (t .entry)) fixed) (now (file .entry)) n) ⌝ }
+{
+    layout::is_footer(t, kind_at(t, sep, file, n))
+}
+
+// That line n of a sheet is a ZPT line, as the cause of a refusal.
+fn say_cause(n: usize) -> bool {
+    print(b"; line ")
+        && say::number(n)
+        && print(b" of the sheet is a ZPT line, and a sheet has none: the writer adds the footer")
+}
+
+// In a sheet, the ZPT line behind a refusal: the refused line itself, or the one before it, behind which
+// nothing may stand. A line refused for its bars has them between its fields.
+fn say_footer_line(t: &[u32], sep: u8, sheet: &[u8], r: Refusal) -> bool {
+    let n = r.record;
+    if sep != TAB {
+        return true;
+    }
+    if n < 1 {
+        return true;
+    }
+    if is_footer_line(t, TAB, sheet, n) {
+        return say_cause(n);
+    }
+    if r.number == 16 && is_footer_line(t, BAR, sheet, n) {
+        return say_cause(n);
+    }
+    if is_footer_line(t, TAB, sheet, n - 1) {
+        return say_cause(n - 1);
+    }
+    true
+}
+
+// The record or field that is not there, and those that are.
+fn say_there(t: &[u32], records: usize, file: &[u8], r: Refusal) -> bool {
+    let n = r.record;
+    if n == 0 || records < n {
+        return print(b"There is no record ")
+            && say::number(n)
+            && print(b": the file has records 1 to ")
+            && say::number(records);
+    }
+    print(b"There is no field ")
+        && say::number(r.field)
+        && print(b": record ")
+        && say::number(n)
+        && place::say_kind(t, BAR, file, n)
+        && print(b", has fields 1 to ")
+        && say::number(record::count_fields(BAR, words::part(FEED, file, n)))
+}
+
+// What is there to be asked of an accepted file.
+fn say_asked(t: &[u32], fixed: &[u8], file: &[u8], r: Refusal) -> bool {
+    match judge::judge_by(t, fixed, file) {
+        Verdict::Accepted(n) => say_there(t, n, file, r),
+        Verdict::Refused {
+            number: _,
+            record: _,
+            field: _,
+        } => refusals::rule(r.number),
+    }
+}
+
+// Place, rule and details of a refusal, by the flow's table. 18 has its own rule, the one that was broken.
+fn say_refusal(t: &[u32], fixed: &[u8], sep: u8, file: &[u8], r: Refusal) -> bool {
+    if r.number == 18 {
+        return say_asked(t, fixed, file, r);
+    }
+    place::say_place(t, sep, file, r)
+        && refusals::rule(r.number)
+        && say_details(t, fixed, sep, file, r)
+        && say_footer_line(t, sep, file, r)
+}
+
+// That there is no such flow.
+fn say_no_flow(flow: &[u8]) -> bool {
+    print(b"The rule: ") && refusals::rule(1) && say::found(flow) && print(b".\n")
+}
+
+// The sentence on a refusal of a file, or of a sheet, whose fields are parted by tabs.
+pub fn about_file(flow: &[u8], sep: u8, file: &[u8], r: Refusal) -> bool {
+    let n = flow::flow_number(flow);
+    if n == 0 {
+        return say_no_flow(flow);
+    }
+    let table = flow::table_of(n);
+    let numbers = table.numbers;
+    let fixed = table.fixed;
+    say_refusal(&numbers, &fixed, sep, file, r) && print(b".\n")
+}

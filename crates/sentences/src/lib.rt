@@ -1,0 +1,17 @@
+// What is said to people about a refusal: where it is, the rule, what was found and what would be right.
+// Each sentence is one line on standard output; its function says whether all of it was written.
+mod ask;
+mod form;
+mod found;
+mod kinds;
+mod place;
+mod refusals;
+mod say;
+mod step;
+
+pub use ask::about_field;
+pub use found::about_file;
+pub use place::Refusal;
+pub use refusals::explain;
+pub use refusals::has_rule;
+pub use step::about_stop;

@@ -1,0 +1,66 @@
+// The rule behind each refusal, in words.
+use crate::say;
+use stream::print;
+ghost use mathlib.Core.Path.{_≡_};
+ghost use Rattle.text.specs.Characters.{from-to};
+
+// The greatest refusal.
+const LAST: usize = 18;
+
+// The rule that refusal n holds up, 1 to 9.
+fn early_rule(n: usize) -> bool {
+    match n {
+        1 => print(
+            b"the flow is one of P0012001, P0181002, P0133001, P0134001, P0138001 and P0164001",
+        ),
+        2 => print(b"a file has at most 1,048,576 bytes, and a sheet at most 1,048,000"),
+        3 => print(b"a record has at most 512 bytes, its line feed not counted"),
+        4 => print(b"field 1 is the kind, and it is one of the flow's kinds"),
+        5 => print(b"a kind stands only where the flow's grammar has it"),
+        6 => print(b"a record has as many fields as its kind asks"),
+        7 => print(b"a field is filled unless it is marked opt or null"),
+        8 => print(b"a field has the form of its type"),
+        _ => print(b"a field is within the range of its type"),
+    }
+}
+
+// The rule that refusal n holds up, 10 to 18.
+fn late_rule(n: usize) -> bool {
+    match n {
+        10 => print(b"a fixed value is given as it is, and a null field is empty"),
+        11 => print(b"a key is above the one before it in its set"),
+        12 => print(b"the footer counts all records from the first to itself, both included"),
+        13 => print(
+            b"the footer's checksum is the exclusive-or of the 4-byte pieces of all records before it, first byte highest, the last piece of a record filled with zero bytes",
+        ),
+        14 => print(b"the records end with ZPT, the footer"),
+        15 => print(
+            b"a line feed (hex 0A) ends the last line of a sheet, and of a file in P0012001 and P0181002",
+        ),
+        16 => print(b"a sheet has no bar: its fields are parted by tabs"),
+        17 => print(b"the output has room for the whole result"),
+        _ => print(
+            b"the record and field that are asked are there; a width is 1 to 512 for text, 1 to 18 for int, and for dec 2 to 18 and then 1 to one less",
+        ),
+    }
+}
+
+// The rule that refusal n holds up.
+pub fn rule(n: usize) -> bool {
+    if n < 10 { early_rule(n) } else { late_rule(n) }
+}
+
+// There is a refusal n.
+pub fn has_rule(n: usize) -> bool
+    ensures { λ r. ⌜ r ≡ from-to 1 18 n ⌝ }
+{
+    if n < 1 {
+        return false;
+    }
+    n <= LAST
+}
+
+// The rule of a refusal on a line of its own.
+pub fn explain(n: usize) -> bool {
+    print(b"refusal ") && say::number(n) && print(b": ") && rule(n) && print(b".\n")
+}
