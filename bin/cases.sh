@@ -3,7 +3,7 @@
 # shellcheck shell=sh
 passed=0 failed=0 status=''
 room=$(mktemp -d) || exit 2
-trap 'rm -rf "$room"' EXIT
+trap 'chmod -R u+w "$room"; rm -rf "$room"' EXIT
 trap 'exit 2' HUP INT TERM
 chmod 755 "$room" && cd "$room" || exit 2
 cp "$top/crates/drill/data/P0138001" example || exit 2

@@ -1,5 +1,5 @@
-# Read by the commands that run a program, rig, bench, nightly and drill, here and where bin/install puts them; and by all others in bin/.
-# A command sets own, its own path with every link followed, and then reads this file. POSIX sh and coreutils, nothing else.
+# Read by the commands that run a program, rig, bench, nightly and drill, here and where bin/install puts them, and by all others
+# in bin/. A command sets own, its own path with every link followed, and then reads this file. POSIX sh and coreutils alone.
 # shellcheck shell=sh
 
 home=${own%/*} name=${own##*/}
