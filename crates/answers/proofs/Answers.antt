@@ -4,7 +4,7 @@
 use mathlib.Core.Path.{refl}
 use mathlib.Core.List.{List, _++_}
 use Rattle.text.specs.Characters.{isDigit, isText}
-use Rattle.record.specs.Records.{joined, onto, records, fields, field, extent, bar as barOf, barred, holds}
+use Rattle.record.specs.Records.{joined, onto, records, fields, field, extent, asBar, barred, holds}
 use Rattle.checksum.specs.Checksum.{words, addRecord, checksum, checksumOf}
 use Rattle.number.specs.Numbers.{minus, unsigned, plain, intForm, intValue, decForm, decValue, spelled, decimalIn, decimal}
 use Rattle.number.specs.Calendar.{leap, daysIn, isDay, isDate, isTime}
@@ -43,7 +43,7 @@ unfoldable pub computed : List Case
 computed = refusals ++ neighbours ++ steps ++ p0012 ++ p0181 ++ p0133 ++ p0134 ++ p0138 ++ p0164
 
 computed-right : Right computed
-unfolding computed refusals neighbours steps p0012 p0181 p0133 p0134 p0138 p0164 copies given expected behind joined onto records fields field extent barOf barred holds words addRecord checksum checksumOf minus unsigned plain intForm intValue decForm decValue spelled decimalIn decimal leap daysIn isDay isDate isTime textForm bolForm periodRange form range valueOf widthRight filled fieldAnswer judgedAs fieldJudged keyOrder numberOrder textOrder digitsOrder wholeOrder among find flowNumber isDigit isText fieldFault fieldsFault lastKind keyWith keyBefore placeFault shapeFault keyFault footerFault kindFault fault checkedFrom ended judgedBy verdict judged isThere placeOf fieldValue valueBy valueIn valued turned footer made barLine butLast sheetOf written readTo kindsIn followersFrom stepped
+unfolding computed refusals neighbours steps p0012 p0181 p0133 p0134 p0138 p0164 copies given expected behind joined onto records fields field extent asBar barred holds words addRecord checksum checksumOf minus unsigned plain intForm intValue decForm decValue spelled decimalIn decimal leap daysIn isDay isDate isTime textForm bolForm periodRange form range valueOf widthRight filled fieldAnswer judgedAs fieldJudged keyOrder numberOrder textOrder digitsOrder wholeOrder among find flowNumber isDigit isText fieldFault fieldsFault lastKind keyWith keyBefore placeFault shapeFault keyFault footerFault kindFault fault checkedFrom ended judgedBy verdict judged isThere placeOf fieldValue valueBy valueIn valued turned footer made barLine butLast sheetOf written readTo kindsIn followersFrom stepped
 computed-right = refl
 
 unfoldable pub table : List Case

@@ -12,7 +12,7 @@ use Rattle.text.specs.Characters.{all}
 use Rattle.text.specs.Rules.{must}
 use Rattle.text.proofs.Places.{all-at}
 use Rattle.text.proofs.Tests.{is-true}
-use Rattle.record.specs.Records.{records, fields, field}
+use Rattle.record.specs.Records.{records, fields, field, bar}
 use Rattle.checksum.specs.Checksum.{checksum}
 use Rattle.number.specs.Numbers.{spelled}
 use Rattle.number.proofs.Digits.{and-left, and-right}
@@ -24,7 +24,7 @@ use Rattle.flow.proofs.Agree.{tables-agree, some-kind}
 use Rattle.fault.specs.Fields.{fieldsFault}
 use Rattle.fault.specs.Record.{kindOf, footerFault}
 use Rattle.judge.specs.Record.{sumOf}
-use Rattle.judge.specs.File.{bar, endsInFeed, judgedBy, verdict, judged, accepted, paper}
+use Rattle.judge.specs.File.{endsInFeed, judgedBy, verdict, judged, accepted, paper}
 use Rattle.judge.specs.Right.{kindIn, publishedAs, publishedFor, Typed, RightFor, Right}
 use Rattle.fault.specs.declared.Check.the-variants.{Fine, Fault}
 use Rattle.judge.specs.declared.Verdict.{Verdict}

@@ -8,14 +8,14 @@ use borrow.Author.Tests.{lt-leb, le-leb}
 use lib.ListN.{length, getD, take, drop, length-append, length-take, replicate}
 use lib.Seq.{drop-drop, take-take, take-nil, append-snoc}
 use Rattle.text.specs.Rules.{must}
-use Rattle.record.specs.Records.{records, barred, IsPart}
+use Rattle.record.specs.Records.{records, barred, IsPart, bar}
 use Rattle.checksum.specs.Checksum.{addRecord, checksum}
 use Rattle.record.proofs.Cutting.{records-le}
 use Rattle.checksum.proofs.Sums.{checksum-snoc}
 use Rattle.layout.specs.Layout.{Layout, row}
 use Rattle.fault.specs.Record.{kindOf, keyIn, kindFault}
 use Rattle.judge.specs.Record.{lastKind, keyWith, keyBefore, sumOf, fault}
-use Rattle.judge.specs.File.{bar, atRecord, checkedFrom, endsInFeed, ended, judgedBy}
+use Rattle.judge.specs.File.{atRecord, checkedFrom, endsInFeed, ended, judgedBy}
 use Rattle.fault.specs.Code.{keyInSlots, nextState, recordFault, Passed}
 use Rattle.judge.specs.Code.{summary}
 use Rattle.fault.specs.declared.Check.{Check}

@@ -7,7 +7,7 @@ use lib.Dec.{leb}
 use lib.ListN.{length}
 use borrow.Author.Tests.{leb-true, le-leb}
 use Rattle.text.specs.Rules.{must}
-use Rattle.record.specs.Records.{records, field, barred}
+use Rattle.record.specs.Records.{records, field, barred, bar}
 use Rattle.checksum.specs.Checksum.{checksum}
 use Rattle.record.proofs.Bars.{barred-bar}
 use Rattle.number.specs.Numbers.{spelled}
@@ -15,7 +15,7 @@ use Rattle.layout.specs.Layout.{Layout, isFooter}
 use Rattle.fault.specs.Record.{kindOf, footerFault}
 use Rattle.fault.specs.declared.Check.the-variants.{Fine, Fault}
 use Rattle.judge.specs.Record.{lastKind, sumOf}
-use Rattle.judge.specs.File.{bar, checkedFrom, endsInFeed, ended, finish, judgedBy}
+use Rattle.judge.specs.File.{checkedFrom, endsInFeed, ended, finish, judgedBy}
 use Rattle.judge.specs.declared.Verdict.{Verdict}
 use Rattle.judge.specs.declared.Verdict.the-variants.{Accepted, Refused}
 use Rattle.judge.proofs.Files.{last-snoc}

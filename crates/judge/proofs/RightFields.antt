@@ -9,7 +9,7 @@ use lib.ListN.{length, getD, drop, length-drop}
 use lib.Seq.{append-snoc, getD-drop}
 use borrow.Author.Tests.{leb-true, eqb-true, eqb-false, not-true, le-leb, eq-eqb, ne-eqb}
 use Rattle.text.specs.Rules.{must}
-use Rattle.record.specs.Records.{fields, field}
+use Rattle.record.specs.Records.{fields, field, bar}
 use Rattle.field.specs.Types.{form, range, valueOf, isNull}
 use Rattle.field.specs.Judge.{mayBeEmpty, meetsMark, filled, fieldAnswer, refusalOf}
 use Rattle.field.specs.declared.FieldType.{FieldType}
@@ -22,7 +22,7 @@ use Rattle.fault.proofs.Leaves.{no-fault}
 use Rattle.fault.specs.Fields.{also, fieldFault, fieldsFault}
 use Rattle.fault.specs.Record.{kindOf, keyIn, placeFault, shapeFault, keyFault, footerFault, kindFault}
 use Rattle.judge.specs.Record.{lastKind, keyBefore, sumOf, fault}
-use Rattle.judge.specs.File.{bar, atRecord, checkedFrom}
+use Rattle.judge.specs.File.{atRecord, checkedFrom}
 use Rattle.judge.specs.Right.{Meets, Typed}
 use Rattle.judge.proofs.RightEach.{Each, each-none, each-cons, each-first, each-rest}
 use Rattle.fault.specs.declared.Check.{Check}

@@ -12,7 +12,7 @@ use Rattle.text.specs.Order.{sameBytes}
 use Rattle.text.specs.declared.Order.{Order}
 use Rattle.text.specs.declared.Order.the-variants.{Below, Equal, Above}
 use Rattle.text.proofs.Lists.{same-refl}
-use Rattle.record.specs.Records.{field}
+use Rattle.record.specs.Records.{field, bar}
 use Rattle.field.specs.Types.{isNull}
 use Rattle.field.specs.Judge.{mayBeEmpty}
 use Rattle.field.specs.Keys.{keyOrder}
@@ -24,7 +24,6 @@ use Rattle.grammar.specs.Table.{rowOf}
 use Rattle.flow.specs.Publication.{Flow, PublishedKind, names, null, rowFor, layoutFor}
 use Rattle.fault.specs.Record.{kindOf, keyIn, keyType, isBelow, ascending, keyFault}
 use Rattle.judge.specs.Record.{keyWith, keyBefore}
-use Rattle.judge.specs.File.{bar}
 use Rattle.judge.specs.Right.{kindIn, NoneOfKind, publishedAs, publishedFor, Typed, keyTypeFor, Ascends}
 use Rattle.fault.specs.declared.Check.the-variants.{Fine}
 use Rattle.judge.proofs.RightEach.{Each, each-first, each-rest}

@@ -9,6 +9,7 @@ use lib.Dec.{eqb}
 use lib.ListN.{length, getD}
 use lib.Seq.{append-snoc}
 use borrow.Author.Tests.{eqb-true, eqb-false, not-true, eq-eqb, ne-eqb}
+use Rattle.record.specs.Records.{bar}
 use Rattle.text.specs.Order.{sameBytes}
 use Rattle.text.specs.Places.{placeOf}
 use Rattle.text.specs.Rules.{must}
@@ -24,7 +25,6 @@ use Rattle.flow.proofs.Agree.{names-are, footer-is}
 use Rattle.flow.specs.Publication.{Flow, PublishedKind, names, rowFor, layoutFor}
 use Rattle.fault.specs.Record.{kindOf}
 use Rattle.judge.specs.Record.{lastKind}
-use Rattle.judge.specs.File.{bar}
 use Rattle.judge.specs.Right.{kindIn, publishedAs}
 use Rattle.judge.proofs.Files.{last-snoc}
 use Rattle.judge.proofs.RightEach.{Each, each-none, each-cons, each-first, each-rest}

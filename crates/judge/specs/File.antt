@@ -5,7 +5,7 @@ use mathlib.Core.List.{List, [], _∷_, _++_}
 use lib.Dec.{eqb, leb}
 use lib.ListN.{length, getD}
 use Rattle.text.specs.Rules.{must}
-use Rattle.record.specs.Records.{records}
+use Rattle.record.specs.Records.{records, bar}
 use Rattle.layout.specs.Layout.{Layout, isFooter}
 use Rattle.flow.specs.Publication.{layoutFor}
 use Rattle.flow.specs.Flows.{held, flowNamed}
@@ -14,10 +14,6 @@ use Rattle.fault.specs.declared.Check.{Check}
 use Rattle.fault.specs.declared.Check.the-variants.{Fine, Fault}
 use Rattle.judge.specs.declared.Verdict.{Verdict}
 use Rattle.judge.specs.declared.Verdict.the-variants.{Accepted, Refused}
-
--- the byte that parts fields in a file
-abbrev pub bar : ℕ
-bar = 0x7C
 
 -- a fault at record n is a refusal, and without one something more is said
 abbrev pub atRecord : ℕ → Check → Verdict → Verdict

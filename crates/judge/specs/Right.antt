@@ -7,7 +7,7 @@ use mathlib.Core.List.{List, [], _∷_, _++_, map}
 use lib.ListN.{length, getD}
 use Rattle.text.specs.Order.{sameBytes}
 use Rattle.text.specs.declared.Order.the-variants.{Below}
-use Rattle.record.specs.Records.{records, fields, field}
+use Rattle.record.specs.Records.{records, fields, field, bar}
 use Rattle.checksum.specs.Checksum.{checksum as sumOfRecords}
 use Rattle.number.specs.Numbers.{spelled}
 use Rattle.field.specs.Judge.{fieldAnswer}
@@ -18,7 +18,6 @@ use Rattle.layout.specs.Layout.{Rule}
 use Rattle.grammar.specs.Sets.{Under}
 use Rattle.flow.specs.Publication.{Flow, PublishedKind, kind, null}
 use Rattle.flow.specs.Flows.{held, flowNamed}
-use Rattle.judge.specs.File.{bar}
 
 -- the kind of a record is its first field
 abbrev pub kindIn : List ℕ → List ℕ

@@ -40,13 +40,17 @@ unfoldable pub extent : List (List ℕ) → ℕ
 extent [] = 0
 extent (p ∷ ps) = length p + 1 + extent ps
 
+-- the byte that parts fields in a file
+abbrev pub bar : ℕ
+bar = 0x7C
+
 -- a byte with sep counted as a bar
-unfoldable pub bar : ℕ → ℕ → ℕ
-bar sep b = cond (eqb b sep) 0x7C b
+unfoldable pub asBar : ℕ → ℕ → ℕ
+asBar sep b = cond (eqb b sep) bar b
 
 -- bytes with each sep turned to a bar
 unfoldable pub barred : ℕ → List ℕ → List ℕ
-barred sep s = map (bar sep) s
+barred sep s = map (asBar sep) s
 
 -- the file of some records, a line feed after each
 unfoldable pub joined : List (List ℕ) → List ℕ

@@ -8,7 +8,7 @@ use lib.Dec.{eqb, leb}
 use lib.ListN.{length, getD, length-append}
 use borrow.Author.Tests.{eqb-true, eqb-false}
 use Rattle.text.proofs.Lists.{three-of}
-use Rattle.record.specs.Records.{onto, records, fields, field, joined, holds, someHolds}
+use Rattle.record.specs.Records.{onto, records, fields, field, joined, holds, someHolds, bar}
 use Rattle.checksum.specs.Checksum.{checksum}
 use Rattle.record.proofs.Cutting.{neither, records-joined, records-free, joined-ended, joined-not-ended}
 use Rattle.record.proofs.Runs.{fields-some}
@@ -20,7 +20,7 @@ use Rattle.layout.specs.Layout.{Rule, Layout, row, isFooter}
 use Rattle.flow.specs.Letters.{ZPT}
 use Rattle.fault.specs.Record.{kindOf}
 use Rattle.judge.specs.Record.{lastKind}
-use Rattle.judge.specs.File.{bar, checkedFrom, endsInFeed}
+use Rattle.judge.specs.File.{checkedFrom, endsInFeed}
 use Rattle.judge.proofs.RightFields.{FineRecord}
 use Rattle.judge.proofs.Passes.{Passes, all-fine, last-closes, last-spells}
 use Rattle.sheet.specs.Sheets.{tab, footer, butLast, withFeed}

@@ -5,9 +5,9 @@ use mathlib.Core.List.{List, [], _∷_, _++_}
 use native.Mathlib.Omega.{arith}
 use lib.ListN.{length, set, length-append, length-set}
 use lib.Seq.{append-snoc}
+use Rattle.record.specs.Records.{bar}
 use Rattle.number.specs.Numbers.{decimal}
 use Rattle.flow.specs.Letters.{ZPT}
-use Rattle.judge.specs.File.{bar}
 use Rattle.sheet.specs.Sheets.{footer}
 use Rattle.sheet.specs.Code.{put}
 use Rattle.sheet.proofs.Footers.{foot-length}

@@ -9,7 +9,7 @@ use lib.ListN.{length, getD, length-append, List·getD-map}
 use borrow.Author.Tests.{eq-eqb, ne-eqb, le-leb}
 use Rattle.text.specs.Characters.{isDigit}
 use Rattle.text.specs.Rules.{must}
-use Rattle.record.specs.Records.{onto, fields, holds, someHolds}
+use Rattle.record.specs.Records.{onto, fields, holds, someHolds, bar}
 use Rattle.record.proofs.Cutting.{neither, some-at}
 use Rattle.record.proofs.Fields.{field-number}
 use Rattle.number.specs.Numbers.{decimal, unsigned}
@@ -25,7 +25,6 @@ use Rattle.flow.specs.Flows.{flows, flowAt, p0012}
 use Rattle.fault.specs.Fields.{also, fieldFault, fieldsFault}
 use Rattle.fault.specs.Record.{kindOf, placeFault, shapeFault, keyFault, footerFault, kindFault}
 use Rattle.judge.specs.Record.{lastKind, sumOf, fault}
-use Rattle.judge.specs.File.{bar}
 use Rattle.fault.specs.declared.Check.{Check}
 use Rattle.fault.specs.declared.Check.the-variants.{Fine, Fault}
 use Rattle.sheet.specs.Sheets.{tab, footer}

@@ -7,9 +7,9 @@ use native.Mathlib.Omega.{arith}
 use lib.ListN.{length, take, drop}
 use lib.Seq.{length-take-le, take-length}
 use borrow.Author.Tests.{le-leb, lt-leb}
-use Rattle.record.specs.Records.{records, joined}
+use Rattle.record.specs.Records.{records, joined, bar}
 use Rattle.checksum.specs.Checksum.{checksumOf}
-use Rattle.judge.specs.File.{bar, verdict, judged}
+use Rattle.judge.specs.File.{verdict, judged}
 use Rattle.judge.specs.File as judging
 use Rattle.judge.specs.declared.Verdict.{Verdict}
 use Rattle.judge.specs.declared.Verdict.the-variants as verdicts

@@ -5,7 +5,7 @@ use mathlib.Core.Bool.{false}
 use mathlib.Core.List.{List, [], _∷_, _++_, map, map-append, foldl, append-nil}
 use lib.ListN.{length, getD, length-append, length-map}
 use lib.Seq.{append-snoc}
-use Rattle.record.specs.Records.{fields, field, barred, holds, someHolds}
+use Rattle.record.specs.Records.{fields, field, barred, holds, someHolds, bar}
 use Rattle.checksum.specs.Checksum.{checksum}
 use Rattle.record.proofs.Cutting.{neither}
 use Rattle.record.proofs.Bars.{fields-barred}
@@ -13,7 +13,7 @@ use Rattle.record.proofs.Bars.{barred-length, barred-bar}
 use Rattle.layout.specs.Layout.{Layout, row, kindNamed}
 use Rattle.fault.specs.Record.{kindOf, shapeFault, footerFault, kindFault}
 use Rattle.judge.specs.Record.{lastKind, keyWith, keyBefore, sumOf, fault}
-use Rattle.judge.specs.File.{bar, atRecord, checkedFrom, finish}
+use Rattle.judge.specs.File.{atRecord, checkedFrom, finish}
 use Rattle.fault.specs.declared.Check.{Check}
 use Rattle.fault.specs.declared.Check.the-variants.{Fine, Fault}
 use Rattle.judge.specs.declared.Verdict.{Verdict}

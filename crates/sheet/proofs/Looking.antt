@@ -8,8 +8,7 @@ use native.Mathlib.Omega.{arith}
 use lib.Dec.{eqb}
 use lib.ListN.{length, drop, getD, drop-of-length-le}
 use lib.Seq.{drop-cons}
-use Rattle.record.specs.Records.{holds}
-use Rattle.judge.specs.File.{bar}
+use Rattle.record.specs.Records.{holds, bar}
 use Rattle.sheet.specs.Sheets.{barLine}
 use Rattle.sheet.specs.Write.{linesEnded}
 

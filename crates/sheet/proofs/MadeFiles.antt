@@ -8,13 +8,13 @@ use lib.ListN.{length, getD, length-append, length-map}
 use lib.Seq.{getD-at}
 use borrow.Author.Tests.{eqb-true, ne-eqb, le-leb}
 use Rattle.text.specs.Rules.{must}
-use Rattle.record.specs.Records.{records, barred, joined, holds, someHolds}
+use Rattle.record.specs.Records.{records, barred, joined, holds, someHolds, bar}
 use Rattle.checksum.specs.Checksum.{checksumOf}
 use Rattle.record.proofs.Bars.{records-barred, barred-joined}
 use Rattle.record.proofs.Cutting.{records-joined, records-free, records-le, joined-append, joined-ended}
 use Rattle.layout.specs.Layout.{Layout, mayFollow}
 use Rattle.judge.specs.Record.{lastKind, sumOf, fault}
-use Rattle.judge.specs.File.{bar, atRecord, checkedFrom, endsInFeed, ended, finish, judgedBy}
+use Rattle.judge.specs.File.{atRecord, checkedFrom, endsInFeed, ended, finish, judgedBy}
 use Rattle.fault.specs.declared.Check.the-variants.{Fine, Fault}
 use Rattle.judge.specs.declared.Verdict.{Verdict}
 use Rattle.judge.specs.declared.Verdict.the-variants.{Accepted, Refused}

@@ -10,7 +10,7 @@ use lib.ListN.{length, getD, take, drop, length-append}
 use lib.Seq.{take-at, getD-append-add}
 use borrow.Author.Tests.{leb-true, le-leb, ne-eqb, not-true}
 use Rattle.text.specs.Rules.{must}
-use Rattle.record.specs.Records.{records, barred, joined, holds, someHolds}
+use Rattle.record.specs.Records.{records, barred, joined, holds, someHolds, bar}
 use Rattle.checksum.specs.Checksum.{checksum, checksumOf}
 use Rattle.record.proofs.Bars.{records-barred-length}
 use Rattle.record.proofs.Cutting.{records-joined, records-free, records-le, joined-append}
@@ -18,7 +18,7 @@ use Rattle.checksum.proofs.Sums.{checksumOf-joined}
 use Rattle.layout.specs.Layout.{Layout}
 use Rattle.flow.specs.Publication.{layoutFor}
 use Rattle.flow.specs.Flows.{held, flowNumber, flowNamed}
-use Rattle.judge.specs.File.{bar, endsInFeed, verdict, judgedBy}
+use Rattle.judge.specs.File.{endsInFeed, verdict, judgedBy}
 use Rattle.judge.specs.declared.Verdict.{Verdict}
 use Rattle.judge.specs.declared.Verdict.the-variants as verdicts
 use Rattle.judge.proofs.Passes.{Passes, passes, passed, must-accepted}

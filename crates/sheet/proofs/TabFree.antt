@@ -10,7 +10,7 @@ use lib.Seq.{split-at, drop-cons}
 use borrow.Author.Tests.{eqb-true, ltb-true}
 use Rattle.text.specs.Characters.{all, isDigit, isText}
 use Rattle.text.specs.Rules.{must}
-use Rattle.record.specs.Records.{fields, field, holds, someHolds}
+use Rattle.record.specs.Records.{fields, field, holds, someHolds, bar}
 use Rattle.record.proofs.Runs.{fields-some}
 use Rattle.record.proofs.Fields.{field-number}
 use Rattle.number.specs.Numbers.{minus, unsigned, plain, whole, places, isZero, intForm, decForm}
@@ -25,7 +25,6 @@ use Rattle.layout.specs.Layout.{Rule, Layout, row}
 use Rattle.layout.proofs.Names.{found-row}
 use Rattle.fault.specs.Fields.{fieldFault, fieldsFault}
 use Rattle.fault.specs.Record.{kindOf}
-use Rattle.judge.specs.File.{bar}
 use Rattle.fault.specs.declared.Check.the-variants.{Fine}
 use Rattle.judge.proofs.RightEach.{Each, each-first, each-rest}
 use Rattle.judge.proofs.RightFields.{FineRecord, must-fine}

@@ -9,14 +9,13 @@ use lib.Dec.{eqb}
 use lib.ListN.{length, getD, take, drop, set, length-map, length-append, length-drop}
 use lib.Seq.{length-take-le, take-suc, drop-cons, set-at, append-snoc}
 use borrow.Author.Tests.{eqb-true, eq-eqb, ne-eqb}
-use Rattle.record.specs.Records.{bar as barOf, barred, joined, holds, Bytes}
+use Rattle.record.specs.Records.{asBar, barred, joined, holds, Bytes, bar}
 use Rattle.record.proofs.Cutting.{neither}
-use Rattle.judge.specs.File.{bar}
 use Rattle.sheet.specs.Sheets.{tab, turnedByte, turned}
 
 -- the same as the law of the checksum counts it
 pub turned-bars : (s : List ℕ) → turned tab bar s ≡ barred tab s
-unfolding turned barred barOf
+unfolding turned barred asBar
 turned-bars [] = refl
 turned-bars (b ∷ s) = ap (λ (x : List ℕ). turnedByte tab bar b ∷ x) (turned-bars s)
 

@@ -6,7 +6,7 @@ use mathlib.Core.List.{List, []}
 use native.Mathlib.Omega.{arith}
 use lib.ListN.{length}
 use borrow.Author.Tests.{ne-eqb, le-leb, lt-leb}
-use Rattle.record.specs.Records.{records, holds, Bytes}
+use Rattle.record.specs.Records.{records, holds, Bytes, bar}
 use Rattle.checksum.specs.Checksum.{checksumOf}
 use Rattle.checksum.proofs.Sums.{checksumOf-lt}
 use Rattle.record.proofs.Cutting.{records-le}
@@ -15,7 +15,7 @@ use Rattle.flow.specs.Publication.{layoutFor}
 use Rattle.flow.specs.Flows.{held, flowNumber, flowNamed}
 use Rattle.judge.specs.Record.{lastKind, sumOf}
 use Rattle.judge.specs.Code.{summary}
-use Rattle.judge.specs.File.{bar, checkedFrom, verdict}
+use Rattle.judge.specs.File.{checkedFrom, verdict}
 use Rattle.fault.specs.declared.State.{State}
 use Rattle.judge.specs.declared.Verdict.the-variants.{Accepted, Refused}
 use Rattle.sheet.specs.Sheets.{tab, turned, made, barLine}

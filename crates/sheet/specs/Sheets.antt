@@ -4,11 +4,11 @@ use mathlib.Core.Bool.{cond}
 use mathlib.Core.List.{List, [], _∷_, _++_, map}
 use lib.Dec.{eqb}
 use lib.ListN.{length}
-use Rattle.record.specs.Records.{records, joined, holds}
+use Rattle.record.specs.Records.{records, joined, holds, bar}
 use Rattle.checksum.specs.Checksum.{checksumOf}
 use Rattle.number.specs.Numbers.{decimal}
 use Rattle.flow.specs.Letters.{ZPT}
-use Rattle.judge.specs.File.{bar, endsInFeed}
+use Rattle.judge.specs.File.{endsInFeed}
 
 -- the byte that parts fields in a sheet
 abbrev pub tab : ℕ

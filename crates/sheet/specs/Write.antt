@@ -6,9 +6,9 @@ use mathlib.Core.List.{List, _++_}
 use lib.Dec.{eqb, leb}
 use lib.ListN.{length, drop}
 use Rattle.text.specs.Rules.{must}
-use Rattle.record.specs.Records.{records, holds}
+use Rattle.record.specs.Records.{records, holds, bar}
 use Rattle.flow.specs.Flows.{held}
-use Rattle.judge.specs.File.{bar, verdict, endsInFeed}
+use Rattle.judge.specs.File.{verdict, endsInFeed}
 use Rattle.judge.specs.declared.Verdict.{Verdict}
 use Rattle.judge.specs.declared.Verdict.the-variants as verdicts
 use Rattle.sheet.specs.Sheets.{made, barLine}

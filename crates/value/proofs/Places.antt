@@ -12,7 +12,7 @@ use borrow.Author.Tests.{leb-true}
 use Rattle.text.specs.Rules.{must}
 use Rattle.text.specs.Characters.{from-to}
 use Rattle.number.proofs.Digits.{and-left, and-right}
-use Rattle.record.specs.Records.{records, fields, field, run, extent, IsPart}
+use Rattle.record.specs.Records.{records, fields, field, run, extent, IsPart, bar}
 use Rattle.record.proofs.Runs.{run-le, records-first, fields-last, fields-more}
 use Rattle.record.proofs.Cutting.{records-le, part-as, part-within}
 use Rattle.record.proofs.Fields.{by-number}
@@ -21,7 +21,7 @@ use Rattle.field.specs.declared.FieldAnswer.the-variants as answers
 use Rattle.layout.specs.Layout.{Layout}
 use Rattle.flow.specs.Publication.{layoutFor}
 use Rattle.flow.specs.Flows.{flowNamed}
-use Rattle.judge.specs.File.{bar, verdict}
+use Rattle.judge.specs.File.{verdict}
 use Rattle.judge.specs.declared.Verdict.{Verdict}
 use Rattle.judge.specs.declared.Verdict.the-variants as verdicts
 use Rattle.judge.proofs.Files.{inner}

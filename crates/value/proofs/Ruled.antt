@@ -8,7 +8,7 @@ use lib.ListN.{length, take, drop}
 use borrow.Author.Tests.{le-leb, lt-leb, eq-eqb, ne-eqb}
 use Rattle.text.specs.Rules.{must}
 use Rattle.text.specs.Characters.{from-to}
-use Rattle.record.specs.Records.{records, fields, field, extent}
+use Rattle.record.specs.Records.{records, fields, field, extent, bar}
 use Rattle.record.specs.Found.{Stands}
 use Rattle.record.proofs.Cursors.{part-length}
 use Rattle.record.proofs.Search.{field-stands}
@@ -21,7 +21,6 @@ use Rattle.layout.specs.Layout.{Rule, noRule, Layout}
 use Rattle.layout.specs.Numbers.{word, typeOf, fixedOf, ruleOf, layoutOf, RulesOf}
 use Rattle.layout.proofs.FieldRules.{rule-at, rule-past, type-is}
 use Rattle.fault.specs.Record.{kindOf}
-use Rattle.judge.specs.File.{bar}
 use Rattle.value.specs.Value.{recordAt, isThere, placeOf, endOf, ruleFor, byRule, asValue, fieldValue, valueBy}
 use Rattle.value.specs.declared.Value.{Value}
 use Rattle.value.specs.declared.Value.the-variants.{Refused, Text}

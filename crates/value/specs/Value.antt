@@ -7,7 +7,7 @@ use lib.IntN.{ℤ}
 use lib.ListN.{length, getD, take, drop}
 use Rattle.text.specs.Rules.{must}
 use Rattle.text.specs.Characters.{from-to}
-use Rattle.record.specs.Records.{records, fields, field, extent}
+use Rattle.record.specs.Records.{records, fields, field, extent, bar}
 use Rattle.field.specs.Judge.{fieldAnswer}
 use Rattle.field.specs.declared.FieldAnswer.{FieldAnswer}
 use Rattle.field.specs.declared.FieldAnswer.the-variants as answers
@@ -15,7 +15,7 @@ use Rattle.layout.specs.Layout.{Layout, Rule, noRule, row}
 use Rattle.flow.specs.Publication.{layoutFor}
 use Rattle.flow.specs.Flows.{flowNamed}
 use Rattle.fault.specs.Record.{kindOf}
-use Rattle.judge.specs.File.{bar, verdict}
+use Rattle.judge.specs.File.{verdict}
 use Rattle.judge.specs.declared.Verdict.{Verdict}
 use Rattle.judge.specs.declared.Verdict.the-variants as verdicts
 use Rattle.value.specs.declared.Value.{Value}

@@ -4,11 +4,10 @@ use Prim.Native.Nat.{_+_, _-_, _≤_}
 use native.Mathlib.Omega.{arith}
 use lib.ListN.{length, take, drop}
 use denote.Ref.{now}
-use Rattle.record.specs.Records.{records, fields}
+use Rattle.record.specs.Records.{records, fields, bar}
 use Rattle.record.specs.Found.{Stands}
 use Rattle.record.proofs.Cursors.{part-length}
 use Rattle.layout.specs.Numbers.{layoutOf}
-use Rattle.judge.specs.File.{bar}
 use Rattle.value.proofs.Ruled.{no-record, no-field, kind-value, ruled-value}
 use Rattle.value.proofs.value_by.Statement.{statement}
 use Rattle.value.proofs.value_by.Tie as tie
