@@ -1,12 +1,10 @@
 -- One changed byte changes the checksum.
-use Prim.Native.Nat.{ℕ, suc, _+_, _<_}
+use Prim.Native.Nat.{ℕ, _+_}
 use mathlib.Core.Path.{_≡_, refl, sym, ap, _∙_}
 use mathlib.Core.List.{List, [], _∷_, _++_, foldl, foldl-append}
 use mathlib.Core.Bool.{Bool, true, false}
 use native.Mathlib.Omega.{arith}
 use lib.Dec.{eqb}
-use lib.ListN.{length, take, drop, getD, set}
-use lib.Seq.{set-split, split-at}
 use lib.Bits.{bitXor, xor-comm}
 use borrow.Author.Tests.{ne-eqb}
 use Rattle.record.specs.Records.{onto, records}
@@ -65,12 +63,6 @@ byte-tells t p q a b e =
     let o = one-word a b p q in
     o .tells (xor-tells t (o .before) (o .after) (o .v) (o .w)
     (sym (ap (foldl bitXor t) (o .first)) ∙ e ∙ ap (foldl bitXor t) (o .second)))
-
--- the same of a byte replaced at a place
-pub set-tells : (t : ℕ) (r : List ℕ) (i b : ℕ) → i < length r → addRecord t (set r i b) ≡ addRecord t r → b ≡ getD r i 0
-set-tells t r i b h e =
-    byte-tells t (take i r) (drop (suc i) r) b (getD r i 0)
-    (sym (ap (addRecord t) (set-split r i b h)) ∙ e ∙ ap (addRecord t) (split-at r i 0 h))
 
 -- two lists of records that differ in one record have different checksums, if that record's sums differ
 pub record-tells : (t : ℕ) (rs ts : List (List ℕ)) (p q : List ℕ) → foldl addRecord t (rs ++ p ∷ ts) ≡ foldl addRecord t (rs ++ q ∷ ts) → addRecord 0 p ≡ addRecord 0 q

@@ -1,10 +1,9 @@
 -- Laws of running checksums.
-use Prim.Native.Nat.{ℕ, zero, suc, _<_, _^_}
+use Prim.Native.Nat.{ℕ, suc, _<_, _^_}
 use mathlib.Core.Path.{_≡_, sym, ap, _∙_}
 use mathlib.Core.List.{List, [], _∷_, _++_, foldl, foldl-append}
-use mathlib.Core.Bool.{Bool, true, false, cond}
+use mathlib.Core.Bool.{false}
 use native.Mathlib.Omega.{arith}
-use lib.Dec.{eqb}
 use lib.ListN.{getD}
 use lib.Bits.{bitXor, xor-zero-r, xor-lt}
 use Rattle.record.specs.Records.{records, joined, someHolds, Bytes}
@@ -40,9 +39,6 @@ checksum-snoc rs r = foldl-append addRecord 0 rs (r ∷ [])
 pub checksum-on : (a b : List (List ℕ)) → checksum (a ++ b) ≡ foldl addRecord (checksum a) b
 unfolding checksum
 checksum-on a b = foldl-append addRecord 0 a b
-
-pub checksum-append : (a b : List (List ℕ)) → checksum (a ++ b) ≡ bitXor (checksum a) (checksum b)
-checksum-append a b = checksum-on a b ∙ sum-from (checksum a) b
 
 -- of bytes, a checksum is below 2 ^ 32
 pub add-lt : (r : List ℕ) (s : ℕ) → Bytes r → s < 2 ^ 32 → addRecord s r < 2 ^ 32

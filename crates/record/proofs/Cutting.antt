@@ -5,11 +5,10 @@ use mathlib.Core.List.{List, [], _∷_, _++_, append-assoc, append-nil}
 use mathlib.Core.Bool.{Bool, true, false, cond, _||_, true≢false}
 use native.Mathlib.Omega.{arith}
 use lib.Dec.{eqb}
-use lib.ListN.{length, take, drop, getD, length-append, length-drop, drop-of-length-le}
-use lib.Seq.{drop-drop, split-at}
+use lib.ListN.{length, take, getD, length-append, drop-of-length-le}
+use lib.Seq.{split-at}
 use borrow.Author.Tests.{eqb-true, ne-eqb}
-use Rattle.record.specs.Records.{onto, records, fields, run, joined, holds, someHolds, Bytes, IsPart}
-use Rattle.record.proofs.Runs.{run-le, records-first}
+use Rattle.record.specs.Records.{onto, records, fields, joined, holds, someHolds, Bytes, IsPart}
 
 pub neither : (x y : Bool) → (x || y) ≡ false → (x ≡ false) × (y ≡ false)
 neither true y e = absurd (true≢false e)
@@ -161,28 +160,3 @@ fields-le sep (b ∷ s) = le-go b (suc (length s)) (fields sep s) (eqb b sep) (f
 -- the same part by an equal value
 pub part-as : {s p q : List ℕ} {a e : ℕ} → IsPart s a e p → p ≡ q → IsPart s a e q
 part-as i e = record { ordered = i .ordered; within = i .within; is = i .is ∙ e }
-
--- a part of what stands from m on is a part of the whole
-pub part-within : (s : List ℕ) (m a e : ℕ) (p : List ℕ) → m ≤ length s → IsPart (drop m s) a e p → IsPart s (m + a) (m + e) p
-part-within s m a e p h i =
-    let n : (m + e) - (m + a) ≡ e - a = omega arith in
-    record { ordered = omega (arith, i .ordered); within = omega (arith, i .within, length-drop m s); is = rw (n, ← drop-drop a m s) (i .is) }
-
-next-part : (s : List ℕ) (m a e k : ℕ) (p : List ℕ) → records s ≡ p ∷ records (drop m s) → m ≤ length s
-    → IsPart (drop m s) a e (getD (records (drop m s)) k []) → IsPart s (m + a) (m + e) (getD (records s) (suc k) [])
-next-part s m a e k p f h i = rw f (part-within s m a e (getD (records (drop m s)) k []) h i)
-
--- each record of a file is a part of it
-pub record-part : (k : ℕ) (s : List ℕ) → k < length (records s) → (a : ℕ) × (e : ℕ) × IsPart s a e (getD (records s) k [])
-record-part zero s h =
-    let n = run 0x0A s in
-    let z : n - 0 ≡ n = omega arith in
-    let first = records-first s (omega (arith, records-le s)) in
-    (0, n, record { ordered = omega arith; within = run-le 0x0A s; is = rw (z, first) })
-record-part (suc k) s h =
-    let m = suc (run 0x0A s) in
-    let first = records-first s (omega (arith, records-le s)) in
-    let more : k < length (records (drop m s)) = omega (arith, ap length first) in
-    let i = record-part k (drop m s) more in
-    let inside : m ≤ length s = omega (arith, records-le (drop m s), length-drop m s) in
-    (m + i .0, m + i .1, next-part s m (i .0) (i .1) k (take (run 0x0A s) s) first inside (i .2))

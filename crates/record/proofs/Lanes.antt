@@ -90,10 +90,7 @@ below-at : (p : ℕ → Bool) (n k : ℕ) → below p n ≡ true → k < n → p
 below-at p zero k e h = absurd (omega arith)
 below-at p (suc n) k e h = below-go p n k e (below-at p n k) h (ℕ-discrete k n)
 
--- of one byte, by a test of all 256: 0x80 where the exclusive or is 0, else nothing
-hit-zero : hit 0 ≡ 0x80
-hit-zero = refl
-
+-- of one byte, by a test of all 256: nothing where the exclusive or is not 0
 right : ℕ → Bool
 right x = eqb x 0 || eqb (hit x) 0
 

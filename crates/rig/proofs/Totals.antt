@@ -1,5 +1,5 @@
 -- A tally counts each file once. Assumes nothing.
-use Prim.Native.Nat.{ℕ, _+_}
+use Prim.Native.Nat.{_+_}
 use mathlib.Core.Path.{_≡_, sym, subst}
 use mathlib.Core.Bool.{true, false≢true}
 use native.Mathlib.Omega.{arith}

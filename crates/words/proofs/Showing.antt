@@ -6,7 +6,7 @@ use native.Mathlib.Omega.{arith}
 use mathlib.Core.Path.{_≡_, refl, sym, ap, ap₂, _∙_}
 use mathlib.Core.List.{List, [], _∷_, _++_, append-assoc, append-nil}
 use borrow.Author.Tests.{le-leb, lt-leb}
-use lib.ListN.{length, take, drop, getD, set, length-append, length-drop}
+use lib.ListN.{length, drop, getD, set, length-append, length-drop}
 use lib.Seq.{take-at, drop-at, drop-drop, drop-cons, drop-length, length-take-le, sets, sets-eq}
 use Rattle.words.specs.Shown.{hexDigit, escaped, shownByte, shown, fitting, Shows}
 

@@ -1,7 +1,4 @@
 -- Each return is one end of the range. Assumes nothing.
-use borrow.Author.Needs.{needs}
-use borrow.Author.Tests.{le-leb, lt-leb}
-use mathlib.Core.Path.{sym}
 use Rattle.text.specs.Characters.{isDigit}
 use Rattle.number.proofs.Rules.{tests}
 use Rattle.words.proofs.is_digit.Statement.{statement}
