@@ -5,8 +5,8 @@ use mathlib.Core.List.{List, [], _∷_, _++_, append-assoc, append-nil}
 use mathlib.Core.Bool.{Bool, true, false, cond, _||_, true≢false}
 use native.Mathlib.Omega.{arith}
 use lib.Dec.{eqb}
-use lib.ListN.{length, take, getD, length-append, drop-of-length-le}
-use lib.Seq.{split-at}
+use lib.ListN.{length, take, getD, length-append, drop-of-length-le, drop, length-drop}
+use lib.Seq.{split-at, drop-drop}
 use borrow.Author.Tests.{eqb-true, ne-eqb}
 use Rattle.record.specs.Records.{onto, records, fields, joined, holds, someHolds, Bytes, IsPart}
 
@@ -160,3 +160,9 @@ fields-le sep (b ∷ s) = le-go b (suc (length s)) (fields sep s) (eqb b sep) (f
 -- the same part by an equal value
 pub part-as : {s p q : List ℕ} {a e : ℕ} → IsPart s a e p → p ≡ q → IsPart s a e q
 part-as i e = record { ordered = i .ordered; within = i .within; is = i .is ∙ e }
+
+-- a part of what stands from m on is a part of the whole
+pub part-within : (s : List ℕ) (m a e : ℕ) (p : List ℕ) → m ≤ length s → IsPart (drop m s) a e p → IsPart s (m + a) (m + e) p
+part-within s m a e p h i =
+    let n : (m + e) - (m + a) ≡ e - a = omega arith in
+    record { ordered = omega (arith, i .ordered); within = omega (arith, i .within, length-drop m s); is = rw (n, ← drop-drop a m s) (i .is) }
