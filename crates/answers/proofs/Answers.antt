@@ -4,7 +4,7 @@
 use mathlib.Core.Path.{refl}
 use mathlib.Core.List.{List, _++_}
 use Rattle.text.specs.Characters.{isDigit, isText}
-use Rattle.record.specs.Records.{joined, onto, records, fields, field, extent, asBar, barred, holds}
+use Rattle.record.specs.Records.{joined, onto, records, fields, field, extent, turned, holds}
 use Rattle.checksum.specs.Checksum.{words, addRecord, checksum, checksumOf}
 use Rattle.number.specs.Numbers.{minus, unsigned, plain, intForm, intValue, decForm, decValue, spelled, decimalIn, decimal}
 use Rattle.number.specs.Calendar.{leap, daysIn, isDay, isDate, isTime}
@@ -23,7 +23,7 @@ use Rattle.fault.specs.Record.{placeFault, shapeFault, keyFault, footerFault, k
 use Rattle.judge.specs.Record.{lastKind, keyWith, keyBefore, fault}
 use Rattle.judge.specs.File.{checkedFrom, ended, judgedBy, verdict, judged}
 use Rattle.value.specs.Value.{isThere, placeOf, fieldValue, valueBy, valueIn, valued}
-use Rattle.sheet.specs.Sheets.{turned, footer, made, barLine, butLast, sheetOf}
+use Rattle.sheet.specs.Sheets.{footer, made, barLine, butLast, sheetOf}
 use Rattle.sheet.specs.Write.{written}
 use Rattle.sheet.specs.Read.{readTo}
 use Rattle.answers.proofs.Cases.{copies, Case, given, expected, Right, both-right, behind}
@@ -43,7 +43,7 @@ unfoldable pub computed : List Case
 computed = refusals ++ neighbours ++ steps ++ p0012 ++ p0181 ++ p0133 ++ p0134 ++ p0138 ++ p0164
 
 computed-right : Right computed
-unfolding computed refusals neighbours steps p0012 p0181 p0133 p0134 p0138 p0164 copies given expected behind joined onto records fields field extent asBar barred holds words addRecord checksum checksumOf minus unsigned plain intForm intValue decForm decValue spelled decimalIn decimal leap daysIn isDay isDate isTime textForm bolForm periodRange form range valueOf widthRight filled fieldAnswer judgedAs fieldJudged keyOrder numberOrder textOrder digitsOrder wholeOrder among find flowNumber isDigit isText fieldFault fieldsFault lastKind keyWith keyBefore placeFault shapeFault keyFault footerFault kindFault fault checkedFrom ended judgedBy verdict judged isThere placeOf fieldValue valueBy valueIn valued turned footer made barLine butLast sheetOf written readTo kindsIn followersFrom stepped
+unfolding computed refusals neighbours steps p0012 p0181 p0133 p0134 p0138 p0164 copies given expected behind joined onto records fields field extent turned holds words addRecord checksum checksumOf minus unsigned plain intForm intValue decForm decValue spelled decimalIn decimal leap daysIn isDay isDate isTime textForm bolForm periodRange form range valueOf widthRight filled fieldAnswer judgedAs fieldJudged keyOrder numberOrder textOrder digitsOrder wholeOrder among find flowNumber isDigit isText fieldFault fieldsFault lastKind keyWith keyBefore placeFault shapeFault keyFault footerFault kindFault fault checkedFrom ended judgedBy verdict judged isThere placeOf fieldValue valueBy valueIn valued footer made barLine butLast sheetOf written readTo kindsIn followersFrom stepped
 computed-right = refl
 
 unfoldable pub table : List Case

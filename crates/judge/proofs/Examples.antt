@@ -6,7 +6,7 @@ use lib.IntN.{pos}
 use mathlib.Core.List.{List, [], _∷_, _++_, map}
 use lib.ListN.{length}
 use Rattle.text.specs.Characters.{bytes, isDigit, isText}
-use Rattle.record.specs.Records.{joined, onto, records, fields, field, asBar, barred}
+use Rattle.record.specs.Records.{joined, onto, records, fields, field, turned}
 use Rattle.checksum.specs.Checksum.{words, addRecord, checksum}
 use Rattle.number.specs.Numbers.{minus, unsigned, plain, intForm, intValue, decForm, decValue, spelled}
 use Rattle.number.specs.Calendar.{leap, daysIn, isDay, isDate, isTime}
@@ -93,5 +93,5 @@ table =
 
 -- each is judged as document 01 says
 pub p-cases : given table ≡ expected table
-unfolding given expected table joined onto records fields field asBar barred words addRecord checksum minus unsigned plain intForm intValue decForm decValue spelled leap daysIn isDay isDate isTime textForm periodRange form range valueOf widthRight filled fieldAnswer judgedAs fieldJudged among find flowNumber isDigit isText fieldFault fieldsFault lastKind keyWith keyBefore placeFault shapeFault keyFault footerFault kindFault fault checkedFrom ended judgedBy verdict judged
+unfolding given expected table joined onto records fields field turned words addRecord checksum minus unsigned plain intForm intValue decForm decValue spelled leap daysIn isDay isDate isTime textForm periodRange form range valueOf widthRight filled fieldAnswer judgedAs fieldJudged among find flowNumber isDigit isText fieldFault fieldsFault lastKind keyWith keyBefore placeFault shapeFault keyFault footerFault kindFault fault checkedFrom ended judgedBy verdict judged
 p-cases = refl

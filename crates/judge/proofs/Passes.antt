@@ -9,7 +9,7 @@ use borrow.Author.Tests.{leb-true, le-leb}
 use Rattle.text.specs.Rules.{must}
 use Rattle.record.specs.Records.{records, field, barred, bar}
 use Rattle.checksum.specs.Checksum.{checksum}
-use Rattle.record.proofs.Bars.{barred-bar}
+use Rattle.record.proofs.Turned.{turned-same}
 use Rattle.number.specs.Numbers.{spelled}
 use Rattle.layout.specs.Layout.{Layout, isFooter}
 use Rattle.fault.specs.Record.{kindOf, footerFault}
@@ -65,7 +65,7 @@ module _ (l : Layout) (f : List ℕ) (n : ℕ) where
 -- bars turned to bars
 pub bars : (rs : List (List ℕ)) → map (barred bar) rs ≡ rs
 bars [] = refl
-bars (r ∷ rs) = λ i. barred-bar r i ∷ bars rs i
+bars (r ∷ rs) = λ i. turned-same bar r i ∷ bars rs i
 
 foot-tests : (b c d : Bool) → b ≡ true → cond b (must c (Fault 12 2) (must d (Fault 13 3) Fine)) Fine ≡ Fine → (c ≡ true) × (d ≡ true)
 foot-tests true c d h e =

@@ -2,7 +2,7 @@ pub mod Runs
 pub mod Cursors
 pub mod Xor
 pub mod Cutting
-pub mod Bars
+pub mod Turned
 pub mod Fields
 pub mod Search
 pub mod Examples

@@ -44,13 +44,17 @@ extent (p ∷ ps) = length p + 1 + extent ps
 abbrev pub bar : ℕ
 bar = 0x7C
 
--- a byte with sep counted as a bar
-unfoldable pub asBar : ℕ → ℕ → ℕ
-asBar sep b = cond (eqb b sep) bar b
+-- a byte, turned to another where it is this one
+abbrev pub turnedByte : ℕ → ℕ → ℕ → ℕ
+turnedByte from to b = cond (eqb b from) to b
+
+-- bytes, each of one value turned to another
+unfoldable pub turned : ℕ → ℕ → List ℕ → List ℕ
+turned from to s = map (turnedByte from to) s
 
 -- bytes with each sep turned to a bar
-unfoldable pub barred : ℕ → List ℕ → List ℕ
-barred sep s = map (asBar sep) s
+abbrev pub barred : ℕ → List ℕ → List ℕ
+barred sep = turned sep bar
 
 -- the file of some records, a line feed after each
 unfoldable pub joined : List (List ℕ) → List ℕ

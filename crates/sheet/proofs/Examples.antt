@@ -9,7 +9,7 @@ use lib.Dec.{ltb, lit≤}
 use lib.ListN.{length}
 use borrow.Author.Tests.{ltb-true}
 use Rattle.text.specs.Characters.{all, bytes, isDigit, isText}
-use Rattle.record.specs.Records.{joined, onto, records, fields, field, asBar, barred, holds, Bytes, bar}
+use Rattle.record.specs.Records.{joined, onto, records, fields, field, turned, holds, Bytes, bar}
 use Rattle.checksum.specs.Checksum.{words, addRecord, checksum, checksumOf}
 use Rattle.number.specs.Numbers.{minus, unsigned, plain, intForm, intValue, decForm, decValue, spelled, decimalIn, decimal}
 use Rattle.number.specs.Calendar.{leap, daysIn, isDay, isDate, isTime}
@@ -26,7 +26,7 @@ use Rattle.fault.specs.Record.{placeFault, shapeFault, keyFault, footerFault, k
 use Rattle.judge.specs.Record.{lastKind, keyWith, keyBefore, fault}
 use Rattle.judge.specs.File.{checkedFrom, ended, judgedBy, verdict}
 use Rattle.judge.specs.declared.Verdict.the-variants as verdicts
-use Rattle.sheet.specs.Sheets.{tab, turned, footer, made, barLine, butLast, sheetOf}
+use Rattle.sheet.specs.Sheets.{tab, footer, made, barLine, butLast, sheetOf}
 use Rattle.sheet.specs.Write.{written}
 use Rattle.sheet.specs.Code.{linesJudged}
 use Rattle.sheet.specs.declared.Transfer.the-variants.{Done, Refused}
@@ -79,7 +79,7 @@ unfolding made turned joined records onto checksumOf checksum addRecord words
 example-made = ap (λ (foot : List ℕ). turned tab bar exampleSheet ++ foot ++ 0x0A ∷ []) footer-bytes
 
 example-accepted : verdict P0138001 example ≡ verdicts.Accepted 4
-unfolding joined onto records fields field asBar barred words addRecord checksum minus unsigned plain intForm intValue decForm decValue spelled leap daysIn isDay isDate isTime textForm form range valueOf filled fieldAnswer among find flowNumber isDigit isText fieldFault fieldsFault lastKind keyWith keyBefore placeFault shapeFault keyFault footerFault kindFault fault checkedFrom ended judgedBy verdict
+unfolding joined onto records fields field turned words addRecord checksum minus unsigned plain intForm intValue decForm decValue spelled leap daysIn isDay isDate isTime textForm form range valueOf filled fieldAnswer among find flowNumber isDigit isText fieldFault fieldsFault lastKind keyWith keyBefore placeFault shapeFault keyFault footerFault kindFault fault checkedFrom ended judgedBy verdict
 example-accepted = refl
 
 -- with room for its 88 bytes it is written
@@ -99,7 +99,7 @@ example-written =
 
 -- an empty sheet is 5 at record 1
 pub empty-sheet : (room : ℕ) → written P0138001 [] room ≡ Refused 5 1 1
-unfolding joined onto records fields field asBar barred holds words addRecord checksum checksumOf minus unsigned plain intForm intValue decForm decValue spelled decimalIn decimal leap daysIn isDay isDate isTime textForm form range valueOf filled fieldAnswer among find flowNumber isDigit isText fieldFault fieldsFault lastKind keyWith keyBefore placeFault shapeFault keyFault footerFault kindFault fault checkedFrom ended judgedBy verdict turned footer made written
+unfolding joined onto records fields field turned holds words addRecord checksum checksumOf minus unsigned plain intForm intValue decForm decValue spelled decimalIn decimal leap daysIn isDay isDate isTime textForm form range valueOf filled fieldAnswer among find flowNumber isDigit isText fieldFault fieldsFault lastKind keyWith keyBefore placeFault shapeFault keyFault footerFault kindFault fault checkedFrom ended judgedBy verdict footer made written
 empty-sheet room = refl
 
 -- a sheet without its last line feed is 15 at its last line
@@ -126,7 +126,7 @@ abbrev footedSheet : List ℕ
 footedSheet = sheet (zhd ∷ sub ∷ ta2 ∷ "ZPT|4|812996689" ∷ [])
 
 footed-lines : linesJudged (layoutFor (flowNamed P0138001)) (records footedSheet) ≡ verdicts.Refused 5 5 1
-unfolding joined onto records fields field asBar barred words addRecord checksum minus unsigned plain intForm intValue decForm decValue spelled leap daysIn isDay isDate isTime textForm form range valueOf filled fieldAnswer among find flowNumber isDigit isText fieldFault fieldsFault lastKind keyWith keyBefore placeFault shapeFault keyFault footerFault kindFault fault checkedFrom turned linesJudged
+unfolding joined onto records fields field turned words addRecord checksum minus unsigned plain intForm intValue decForm decValue spelled leap daysIn isDay isDate isTime textForm form range valueOf filled fieldAnswer among find flowNumber isDigit isText fieldFault fieldsFault lastKind keyWith keyBefore placeFault shapeFault keyFault footerFault kindFault fault checkedFrom linesJudged
 footed-lines = refl
 
 pub footed-sheet : (room : ℕ) → written P0138001 footedSheet room ≡ Refused 5 5 1

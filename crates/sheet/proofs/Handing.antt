@@ -7,19 +7,19 @@ use native.Mathlib.Omega.{arith}
 use lib.ListN.{length, take, drop}
 use lib.Seq.{length-take-le, take-length}
 use borrow.Author.Tests.{le-leb, lt-leb}
-use Rattle.record.specs.Records.{records, joined, bar}
+use Rattle.record.specs.Records.{records, turned, joined, bar}
+use Rattle.record.proofs.Turned.{turned-length}
 use Rattle.checksum.specs.Checksum.{checksumOf}
 use Rattle.judge.specs.File.{verdict, judged}
 use Rattle.judge.specs.File as judging
 use Rattle.judge.specs.declared.Verdict.{Verdict}
 use Rattle.judge.specs.declared.Verdict.the-variants as verdicts
 use Rattle.judge.proofs.Demand2.{one-reply}
-use Rattle.sheet.specs.Sheets.{tab, turned, footer, made, butLast, sheetOf}
+use Rattle.sheet.specs.Sheets.{tab, footer, made, butLast, sheetOf}
 use Rattle.sheet.specs.Write.{asJudged, fitted, written, paper, Wrote}
 use Rattle.sheet.specs.Read.{readTo, Read}
 use Rattle.sheet.specs.Code.{Totals, Taken, put}
 use Rattle.sheet.specs.declared.Transfer.the-variants.{Done, Refused}
-use Rattle.sheet.proofs.Turning.{turned-length}
 use Rattle.sheet.proofs.Putting.{grown}
 use Rattle.sheet.proofs.MadeFiles.{made-length}
 

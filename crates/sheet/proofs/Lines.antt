@@ -8,8 +8,7 @@ use lib.Seq.{append-snoc}
 use Rattle.record.specs.Records.{fields, field, barred, holds, someHolds, bar}
 use Rattle.checksum.specs.Checksum.{checksum}
 use Rattle.record.proofs.Cutting.{neither}
-use Rattle.record.proofs.Bars.{fields-barred}
-use Rattle.record.proofs.Bars.{barred-length, barred-bar}
+use Rattle.record.proofs.Turned.{turned-length, fields-turned, turned-same}
 use Rattle.layout.specs.Layout.{Layout, row, kindNamed}
 use Rattle.fault.specs.Record.{kindOf, shapeFault, footerFault, kindFault}
 use Rattle.judge.specs.Record.{lastKind, keyWith, keyBefore, sumOf, fault}
@@ -24,7 +23,7 @@ use Rattle.sheet.proofs.Holding.{none-snoc}
 -- a line without a bar has the same fields, whichever byte parts them
 module _ (l : Layout) (r : List ℕ) (free : holds bar r ≡ false) where
   same-fields : fields bar (barred tab r) ≡ fields tab r
-  same-fields = fields-barred tab r free
+  same-fields = fields-turned tab bar r free
 
   same-field : (k : ℕ) → field bar k (barred tab r) ≡ field tab k r
   unfolding field
@@ -61,7 +60,7 @@ module _ (l : Layout) where
 
   turned-once : (before : List (List ℕ)) → map (barred bar) (map (barred tab) before) ≡ map (barred tab) before
   turned-once [] = refl
-  turned-once (r ∷ rs) = λ i. barred-bar (barred tab r) i ∷ turned-once rs i
+  turned-once (r ∷ rs) = λ i. turned-same bar (barred tab r) i ∷ turned-once rs i
 
   pub same-sum : (before : List (List ℕ)) → sumOf bar (map (barred tab) before) ≡ sumOf tab before
   same-sum before = ap checksum (turned-once before)
@@ -71,7 +70,7 @@ module _ (l : Layout) where
   unfolding fault keyBefore
   same-fault before r h free =
       rw (
-        barred-length tab r,
+        turned-length tab bar r,
         length-map before (barred tab),
         same-last before h,
         same-sum before,

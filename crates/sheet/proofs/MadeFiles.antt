@@ -8,9 +8,9 @@ use lib.ListN.{length, getD, length-append, length-map}
 use lib.Seq.{getD-at}
 use borrow.Author.Tests.{eqb-true, ne-eqb, le-leb}
 use Rattle.text.specs.Rules.{must}
-use Rattle.record.specs.Records.{records, barred, joined, holds, someHolds, bar}
+use Rattle.record.specs.Records.{records, turned, barred, joined, holds, someHolds, bar}
 use Rattle.checksum.specs.Checksum.{checksumOf}
-use Rattle.record.proofs.Bars.{records-barred, barred-joined}
+use Rattle.record.proofs.Turned.{turned-length, turned-joined, records-turned}
 use Rattle.record.proofs.Cutting.{records-joined, records-free, records-le, joined-append, joined-ended}
 use Rattle.layout.specs.Layout.{Layout, mayFollow}
 use Rattle.judge.specs.Record.{lastKind, sumOf, fault}
@@ -19,10 +19,9 @@ use Rattle.fault.specs.declared.Check.the-variants.{Fine, Fault}
 use Rattle.judge.specs.declared.Verdict.{Verdict}
 use Rattle.judge.specs.declared.Verdict.the-variants.{Accepted, Refused}
 use Rattle.judge.proofs.Files.{last-snoc}
-use Rattle.sheet.specs.Sheets.{tab, turned, footer, made}
+use Rattle.sheet.specs.Sheets.{tab, footer, made}
 use Rattle.sheet.specs.Write.{linesEnded}
 use Rattle.sheet.specs.Code.{linesJudged}
-use Rattle.sheet.proofs.Turning.{turned-bars, turned-length}
 use Rattle.sheet.proofs.Holding.{none-snoc, records-hold}
 use Rattle.sheet.proofs.Lines.{same-checked, same-last, same-sum, checked-snoc}
 use Rattle.sheet.proofs.Footers.{ProperFooter, lastRow, foot-free, foot-fault, foot-kind, foot-last, foot-short}
@@ -30,10 +29,14 @@ use Rattle.sheet.proofs.Footers.{ProperFooter, lastRow, foot-free, foot
 not-feed : tab ≡ 0x0A → ⊥
 not-feed e = omega arith
 
+-- a sheet's lines, their tabs turned to bars
+sheet-lines : (sheet : List ℕ) → records (turned tab bar sheet) ≡ map (barred tab) (records sheet)
+sheet-lines = records-turned tab bar not-feed (λ e. omega arith)
+
 -- the checksum of a made file is that of the lines, their tabs counted as bars
 pub sheet-sum : (sheet : List ℕ) → checksumOf (turned tab bar sheet) ≡ sumOf tab (records sheet)
 unfolding checksumOf
-sheet-sum sheet = rw (turned-bars sheet, records-barred tab sheet not-feed)
+sheet-sum sheet = rw (sheet-lines sheet)
 
 -- a file ends in a line feed where one was put there
 pub ends-so : (s : List ℕ) → endsInFeed (s ++ 0x0A ∷ []) ≡ true
@@ -71,10 +74,10 @@ sheet-joined (b ∷ s) e =
 module _ (sheet : List ℕ) (ends : linesEnded sheet ≡ true) where
   pub sheet-turned : turned tab bar sheet ≡ joined (bars sheet)
   sheet-turned =
-      turned-bars sheet ∙ ap (barred tab) (sym (sheet-joined sheet ends)) ∙ barred-joined tab (records sheet) not-feed
+      ap (barred tab) (sym (sheet-joined sheet ends)) ∙ turned-joined tab bar not-feed (records sheet)
 
   bars-free : someHolds 0x0A (bars sheet) ≡ false
-  bars-free = rw (← records-barred tab sheet not-feed) (records-free (barred tab sheet))
+  bars-free = rw (← sheet-lines sheet) (records-free (turned tab bar sheet))
 
   -- the records of a made file are the lines, parted by bars, and the footer
   pub records-made : records (made sheet) ≡ bars sheet ++ foot sheet ∷ []

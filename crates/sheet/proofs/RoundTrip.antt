@@ -10,9 +10,9 @@ use lib.ListN.{length, getD, take, drop, length-append}
 use lib.Seq.{take-at, getD-append-add}
 use borrow.Author.Tests.{leb-true, le-leb, ne-eqb, not-true}
 use Rattle.text.specs.Rules.{must}
-use Rattle.record.specs.Records.{records, barred, joined, holds, someHolds, bar}
+use Rattle.record.specs.Records.{records, turned, barred, joined, holds, someHolds, bar}
 use Rattle.checksum.specs.Checksum.{checksum, checksumOf}
-use Rattle.record.proofs.Bars.{records-barred-length}
+use Rattle.record.proofs.Turned.{turned-back, turned-gone, turned-joined, records-turned-length}
 use Rattle.record.proofs.Cutting.{records-joined, records-free, records-le, joined-append}
 use Rattle.checksum.proofs.Sums.{checksumOf-joined}
 use Rattle.layout.specs.Layout.{Layout}
@@ -22,12 +22,11 @@ use Rattle.judge.specs.File.{endsInFeed, verdict, judgedBy}
 use Rattle.judge.specs.declared.Verdict.{Verdict}
 use Rattle.judge.specs.declared.Verdict.the-variants as verdicts
 use Rattle.judge.proofs.Passes.{Passes, passes, passed, must-accepted}
-use Rattle.sheet.specs.Sheets.{tab, turned, footer, made, butLast, sheetOf, withFeed}
+use Rattle.sheet.specs.Sheets.{tab, footer, made, butLast, sheetOf, withFeed}
 use Rattle.sheet.specs.Write.{linesEnded, asJudged, fitted, written, paper, output, Wrote}
 use Rattle.sheet.specs.Read.{readTo, Read}
 use Rattle.sheet.specs.declared.Transfer.{Transfer}
 use Rattle.sheet.specs.declared.Transfer.the-variants.{Done, Refused}
-use Rattle.sheet.proofs.Turning.{turned-bars, turned-back, turned-gone, turned-joined}
 use Rattle.sheet.proofs.Holding.{none-joined}
 use Rattle.sheet.proofs.Footers.{properFooter, foot-length}
 use Rattle.sheet.proofs.MadeFiles.{made-length, records-made, sheet-turned, ends-so}
@@ -158,8 +157,8 @@ module _ (name f : List ℕ) (n : ℕ) (accepts : verdict name f ≡ verdicts.Ac
 
   count : length (records (sheetOf f)) ≡ length lines
   count =
-      sym (records-barred-length tab (sheetOf f) (λ e. omega arith))
-      ∙ ap (λ (s : List ℕ). length (records s)) (sym (turned-bars (sheetOf f)) ∙ front) ∙ ap length (records-joined lines feed-free)
+      sym (records-turned-length tab bar (λ e. omega arith) (λ e. omega arith) (sheetOf f))
+      ∙ ap (λ (s : List ℕ). length (records s)) front ∙ ap length (records-joined lines feed-free)
 
   total : checksumOf (turned tab bar (sheetOf f)) ≡ checksum lines
   total = ap checksumOf front ∙ checksumOf-joined lines feed-free
@@ -182,7 +181,7 @@ module _ (name f : List ℕ) (n : ℕ) (accepts : verdict name f ≡ verdicts.Ac
 
   ended-lines : linesEnded (sheetOf f) ≡ true
   unfolding sheetOf
-  ended-lines = ap linesEnded (turned-joined bar tab lines (λ e. omega arith)) ∙ joined-ends (map (turned bar tab) lines)
+  ended-lines = ap linesEnded (turned-joined bar tab (λ e. omega arith) lines) ∙ joined-ends (map (turned bar tab) lines)
 
   -- an accepted file of at most 1,048,000 bytes, read and written again, is the same file with a line feed added if the last was absent
   pub file-back : (made (sheetOf f) ≡ withFeed f)

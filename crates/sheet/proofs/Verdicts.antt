@@ -6,10 +6,11 @@ use mathlib.Core.List.{List, []}
 use native.Mathlib.Omega.{arith}
 use lib.ListN.{length}
 use borrow.Author.Tests.{ne-eqb, le-leb, lt-leb}
-use Rattle.record.specs.Records.{records, holds, Bytes, bar}
+use Rattle.record.specs.Records.{records, turned, holds, Bytes, bar}
 use Rattle.checksum.specs.Checksum.{checksumOf}
 use Rattle.checksum.proofs.Sums.{checksumOf-lt}
 use Rattle.record.proofs.Cutting.{records-le}
+use Rattle.record.proofs.Turned.{turned-bytes}
 use Rattle.layout.specs.Layout.{Layout, mayFollow}
 use Rattle.flow.specs.Publication.{layoutFor}
 use Rattle.flow.specs.Flows.{held, flowNumber, flowNamed}
@@ -18,13 +19,12 @@ use Rattle.judge.specs.Code.{summary}
 use Rattle.judge.specs.File.{checkedFrom, verdict}
 use Rattle.fault.specs.declared.State.{State}
 use Rattle.judge.specs.declared.Verdict.the-variants.{Accepted, Refused}
-use Rattle.sheet.specs.Sheets.{tab, turned, made, barLine}
+use Rattle.sheet.specs.Sheets.{tab, made, barLine}
 use Rattle.sheet.specs.Write.{linesEnded, fitted, written}
 use Rattle.sheet.specs.Code.{linesJudged, Totals, LinesRight, MadeRight}
 use Rattle.sheet.specs.declared.Transfer.the-variants as transfers
 use Rattle.sheet.specs.declared.Made.{Made}
 use Rattle.sheet.specs.declared.Made.the-variants as mades
-use Rattle.sheet.proofs.Turning.{turned-bytes}
 use Rattle.sheet.proofs.Footers.{lastRow, properFooter}
 use Rattle.sheet.proofs.MadeFiles.{sheet-sum, made-judged}
 

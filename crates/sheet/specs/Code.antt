@@ -4,14 +4,14 @@ use mathlib.Core.Path.{_≡_}
 use mathlib.Core.List.{List, [], _++_}
 use lib.ListN.{length, take, drop}
 use Rattle.text.specs.Rules.{must}
-use Rattle.record.specs.Records.{records, bar}
+use Rattle.record.specs.Records.{records, turned, bar}
 use Rattle.checksum.specs.Checksum.{checksumOf}
 use Rattle.layout.specs.Layout.{Layout, mayFollow}
 use Rattle.judge.specs.Record.{lastKind}
 use Rattle.judge.specs.File.{checkedFrom, finish}
 use Rattle.judge.specs.declared.Verdict.{Verdict}
 use Rattle.judge.specs.declared.Verdict.the-variants as verdicts
-use Rattle.sheet.specs.Sheets.{tab, turned, made}
+use Rattle.sheet.specs.Sheets.{tab, made}
 use Rattle.sheet.specs.Write.{fitted, written}
 use Rattle.sheet.specs.declared.Transfer.the-variants as transfers
 use Rattle.sheet.specs.declared.Made.{Made}

@@ -1,10 +1,9 @@
 -- Sheets and the files made of them (document 01, "Sheets" and "Footer"). Assumes nothing.
 use Prim.Native.Nat.{ℕ, suc, _+_}
 use mathlib.Core.Bool.{cond}
-use mathlib.Core.List.{List, [], _∷_, _++_, map}
-use lib.Dec.{eqb}
+use mathlib.Core.List.{List, [], _∷_, _++_}
 use lib.ListN.{length}
-use Rattle.record.specs.Records.{records, joined, holds, bar}
+use Rattle.record.specs.Records.{records, turned, joined, holds, bar}
 use Rattle.checksum.specs.Checksum.{checksumOf}
 use Rattle.number.specs.Numbers.{decimal}
 use Rattle.flow.specs.Letters.{ZPT}
@@ -13,14 +12,6 @@ use Rattle.judge.specs.File.{endsInFeed}
 -- the byte that parts fields in a sheet
 abbrev pub tab : ℕ
 tab = 0x09
-
--- a byte, turned to another where it is this one
-abbrev pub turnedByte : ℕ → ℕ → ℕ → ℕ
-turnedByte from to b = cond (eqb b from) to b
-
--- bytes, each of one value turned to another
-unfoldable pub turned : ℕ → ℕ → List ℕ → List ℕ
-turned from to s = map (turnedByte from to) s
 
 -- the footer of n records in all whose checksum is sum, without its line feed: ZPT, bar, count, bar, checksum
 unfoldable pub footer : ℕ → ℕ → List ℕ

@@ -4,7 +4,7 @@ use mathlib.Core.Path.{_≡_, refl}
 use mathlib.Core.List.{List, [], _∷_, map}
 use lib.IntN.{pos}
 use Rattle.text.specs.Characters.{bytes, isDigit, isText}
-use Rattle.record.specs.Records.{joined, onto, records, fields, field, extent, asBar, barred}
+use Rattle.record.specs.Records.{joined, onto, records, fields, field, extent, turned}
 use Rattle.checksum.specs.Checksum.{words, addRecord, checksum}
 use Rattle.number.specs.Numbers.{minus, unsigned, plain, intForm, intValue, decForm, decValue, spelled}
 use Rattle.number.specs.Calendar.{leap, daysIn, isDay, isDate, isTime}
@@ -58,7 +58,7 @@ table =
 
 -- each is answered as document 01 says
 pub value-cases : given example table ≡ expected table
-unfolding given expected example table joined onto records fields field asBar barred words addRecord checksum minus unsigned plain intForm intValue decForm decValue spelled leap daysIn isDay isDate isTime textForm form range valueOf filled fieldAnswer among find flowNumber isDigit isText fieldFault fieldsFault lastKind keyWith keyBefore placeFault shapeFault keyFault footerFault kindFault fault checkedFrom ended judgedBy verdict isThere extent placeOf fieldValue valueBy valueIn valued
+unfolding given expected example table joined onto records fields field turned words addRecord checksum minus unsigned plain intForm intValue decForm decValue spelled leap daysIn isDay isDate isTime textForm form range valueOf filled fieldAnswer among find flowNumber isDigit isText fieldFault fieldsFault lastKind keyWith keyBefore placeFault shapeFault keyFault footerFault kindFault fault checkedFrom ended judgedBy verdict isThere extent placeOf fieldValue valueBy valueIn valued
 value-cases = refl
 
 -- of a refused file the reader's refusal, whatever is asked: the empty file is 14 at record 1

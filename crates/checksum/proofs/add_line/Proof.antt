@@ -6,9 +6,9 @@ use native.Mathlib.Omega.{arith}
 use lib.ListN.{length, drop}
 use lib.Bits.{bitXor}
 use denote.Ref.{now}
-use Rattle.record.specs.Records.{barred}
+use Rattle.record.specs.Records.{barred, bar}
 use Rattle.checksum.specs.Checksum.{addRecord}
-use Rattle.record.proofs.Bars.{barred-bar, barred-length}
+use Rattle.record.proofs.Turned.{turned-length, turned-same}
 use Rattle.checksum.proofs.Pieces.{add-four}
 use Rattle.checksum.proofs.add_line.Statement.{statement}
 use Rattle.checksum.proofs.add_line.Tie as tie
@@ -27,7 +27,7 @@ returns c =
     let a = c .before .before .before .args in
     let part = now (a .part) in
     c .add-record .ensures
-    ∙ ap (addRecord (a .sum)) (sym (barred-bar part) ∙ ap (λ (b : ℕ). barred b part) (sym (c .before .if1 .taken)))
+    ∙ ap (addRecord (a .sum)) (sym (turned-same bar part) ∙ ap (λ (b : ℕ). barred b part) (sym (c .before .if1 .taken)))
 
 loop-holds : tie.Need-loop-holds Inv-loop μ-loop
 loop-holds c = (omega arith, refl)
@@ -49,7 +49,7 @@ loop-again c =
     let l = c .before .before .loop in
     let a = c .before .before .before .before .before .args in
     let line = barred (a .sep) (now (a .part)) in
-    let n = barred-length (a .sep) (now (a .part)) in (
+    let n = turned-length (a .sep) bar (now (a .part)) in (
       omega arith,
       ap (λ (w : ℕ). addRecord (bitXor (l .t) w) (drop (l .i + 4) line)) (c .barred-piece .ensures)
           ∙ sym (add-four (l .t) line (l .i) (omega arith)) ∙ l .inv .1,

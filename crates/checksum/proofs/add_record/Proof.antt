@@ -8,7 +8,8 @@ use lib.ListN.{length, drop}
 use lib.Bits.{bitXor}
 use denote.Ref.{now}
 use Rattle.checksum.specs.Checksum.{addRecord}
-use Rattle.record.proofs.Bars.{barred-bar}
+use Rattle.record.specs.Records.{bar}
+use Rattle.record.proofs.Turned.{turned-same}
 use Rattle.checksum.proofs.Pieces.{add-four}
 use Rattle.checksum.proofs.add_record.Statement.{statement}
 use Rattle.checksum.proofs.add_record.Tie as tie
@@ -50,7 +51,7 @@ returns : tie.Need-returns Inv-loop μ-loop
 returns c =
     let l = c .before .before .loop in
     let part = now (c .before .before .before .before .args .part) in
-    c .add-tail .ensures ∙ ap (λ (s : List ℕ). addRecord (l .t) (drop (l .i) s)) (barred-bar part) ∙ l .inv .1
+    c .add-tail .ensures ∙ ap (λ (s : List ℕ). addRecord (l .t) (drop (l .i) s)) (turned-same bar part) ∙ l .inv .1
 
 pub add-record-spec : {M : Type 1} → statement M
 add-record-spec =

@@ -4,8 +4,8 @@ use mathlib.Core.Path.{sym, _∙_, ap}
 use native.Mathlib.Omega.{arith}
 use lib.Bits.{bitXor}
 use denote.Ref.{now}
-use Rattle.record.specs.Records.{barred}
-use Rattle.record.proofs.Bars.{barred-length}
+use Rattle.record.specs.Records.{barred, bar}
+use Rattle.record.proofs.Turned.{turned-length}
 use Rattle.checksum.proofs.Pieces.{add-left, add-none}
 use Rattle.checksum.proofs.add_tail.Statement.{statement}
 use Rattle.checksum.proofs.add_tail.Tie as tie
@@ -13,7 +13,7 @@ use Rattle.checksum.proofs.add_tail.Tie as tie
 returns : tie.Need-returns
 returns c =
     let a = c .before .before .args in
-    let n = barred-length (a .sep) (now (a .s)) in
+    let n = turned-length (a .sep) bar (now (a .s)) in
     sym (add-none (a .sum) (barred (a .sep) (now (a .s))) (a .i) (omega (arith, c .if1 .taken)))
 
 filled-requires : tie.Need-filled-requires
@@ -37,7 +37,7 @@ join-requires c κs = search needs
 returns-2 : tie.Need-returns-2
 returns-2 c =
     let a = c .before .before .before .before .before .before .args in
-    let n = barred-length (a .sep) (now (a .s)) in
+    let n = turned-length (a .sep) bar (now (a .s)) in
     let left = add-left (a .sum) (barred (a .sep) (now (a .s))) (a .i) (omega arith) (omega arith) in
     ap (bitXor (a .sum)) (c .join .ensures)
     ∙ rw (c .before .filled3 .ensures, c .before .before .filled2 .ensures, c .before .before .before .filled .ensures) (sym left)

@@ -2,7 +2,8 @@
 use borrow.Author.Needs.{needs}
 use mathlib.Core.Path.{sym}
 use denote.Ref.{now}
-use Rattle.record.proofs.Bars.{barred-here, barred-other}
+use Rattle.record.specs.Records.{bar}
+use Rattle.record.proofs.Turned.{turned-here, turned-other}
 use Rattle.checksum.proofs.barred_byte.Statement.{statement}
 use Rattle.checksum.proofs.barred_byte.Tie as tie
 
@@ -16,13 +17,13 @@ returns : tie.Need-returns
 returns c =
     let s = c .before .before in
     let a = s .args in
-    sym (barred-here (a .sep) (now (a .s)) (a .i) (s .pre) (c .if1 .taken))
+    sym (turned-here (a .sep) bar (now (a .s)) (a .i) (s .pre) (c .if1 .taken))
 
 returns-2 : tie.Need-returns-2
 returns-2 c =
     let s = c .before .before .before in
     let a = s .args in
-    sym (barred-other (a .sep) (now (a .s)) (a .i) (s .pre) (c .before .if1 .left))
+    sym (turned-other (a .sep) bar (now (a .s)) (a .i) (s .pre) (c .before .if1 .left))
 
 pub barred-byte-spec : {M : Type 1} → statement M
 barred-byte-spec =

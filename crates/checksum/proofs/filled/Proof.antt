@@ -2,7 +2,8 @@
 use borrow.Author.Needs.{needs}
 use mathlib.Core.Path.{sym}
 use denote.Ref.{now}
-use Rattle.record.proofs.Bars.{barred-past}
+use Rattle.record.specs.Records.{bar}
+use Rattle.record.proofs.Turned.{turned-past}
 use Rattle.checksum.proofs.filled.Statement.{statement}
 use Rattle.checksum.proofs.filled.Tie as tie
 
@@ -15,7 +16,7 @@ returns c = search needs
 returns-2 : tie.Need-returns-2
 returns-2 c =
     let a = c .before .before .args in
-    sym (barred-past (a .sep) (now (a .s)) (a .i) (c .if1 .left))
+    sym (turned-past (a .sep) bar (now (a .s)) (a .i) (c .if1 .left))
 
 pub filled-spec : {M : Type 1} → statement M
 filled-spec = tie.close (tie.spec barred-byte-requires returns returns-2)

@@ -6,7 +6,7 @@ use mathlib.Core.List.{_++_}
 use native.Mathlib.Omega.{arith}
 use lib.ListN.{length, take, drop, set}
 use denote.Ref.{now}
-use Rattle.sheet.specs.Sheets.{turned}
+use Rattle.record.specs.Records.{turned}
 use Rattle.sheet.proofs.Turning.{front-length, front-next}
 use Rattle.sheet.proofs.put_turned.Statement.{statement}
 use Rattle.sheet.proofs.put_turned.Tie as tie
