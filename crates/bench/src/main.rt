@@ -39,7 +39,7 @@ fn answer(input: &[u8]) -> Verdict
 
 // Prints the verdict: the run ends well where the file is accepted.
 fn give(v: Verdict) -> Ending {
-    if !stream::print_verdict(v) {
+    if !printing::print_verdict(v) {
         return Ending::Hindered;
     }
     match v {

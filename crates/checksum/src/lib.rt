@@ -1,4 +1,5 @@
 // The checksum of records, as the footer has it.
+use record::BAR;
 use record::Cursor;
 use record::Step;
 use record::wide;
@@ -20,7 +21,7 @@ fn barred_byte(sep: u8, s: &[u8], i: usize) -> u8
     requires { ⌜ i < length (now s) ⌝ }
     ensures { λ r. ⌜ r ≡ getD (barred sep (now (s .entry))) i 0 ⌝ }
 {
-    if s[i] == sep { b'|' } else { s[i] }
+    if s[i] == sep { BAR } else { s[i] }
 }
 
 // The same, or a zero byte past the end.
@@ -79,14 +80,14 @@ pub fn add_record(sum: u32, part: &[u8]) -> u32
         t = t ^ piece(part, i);
         i += 4;
     }
-    add_tail(t, b'|', part, i)
+    add_tail(t, BAR, part, i)
 }
 
 // The running checksum with one line more, its separators counted as bars.
 pub fn add_line(sum: u32, sep: u8, part: &[u8]) -> u32
     ensures { λ r. ⌜ r ≡ addRecord sum (barred sep (now (part .entry))) ⌝ }
 {
-    if sep == b'|' {
+    if sep == BAR {
         return add_record(sum, part);
     }
     let mut t = sum;

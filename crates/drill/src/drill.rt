@@ -59,7 +59,7 @@ fn other(b: u8, d: usize) -> u8
 
 // Says at which place and by which byte a spoiled file passed. Where one could not be printed, no other is tried.
 fn print_passed(t: Tally, at: usize, b: u8) -> bool {
-    t.written && stream::print_numbers(b"PASSED", at, b as usize, 0)
+    t.written && printing::print_numbers(b"PASSED", at, b as usize, 0)
 }
 
 // Counts a spoiled file, and says where it passed, if it did.

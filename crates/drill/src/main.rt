@@ -52,7 +52,7 @@ fn run(flow: &[u8], file: &mut [u8]) -> Ending
 
 // Says that a file is not good to begin with.
 fn not_good(number: usize, record: usize, field: usize) -> Ending {
-    if stream::print_numbers(b"not good: refused", number, record, field) {
+    if printing::print_numbers(b"not good: refused", number, record, field) {
         return Ending::Refused;
     }
     Ending::Hindered
@@ -62,7 +62,7 @@ fn not_good(number: usize, record: usize, field: usize) -> Ending {
 fn drill_file(flow: &[u8], file: &mut [u8]) -> Ending {
     match judge::judge(flow, file) {
         Verdict::Accepted(records) => {
-            if stream::print_numbers(b"good", 0, records, 0) {
+            if printing::print_numbers(b"good", 0, records, 0) {
                 run(flow, file)
             } else {
                 Ending::Hindered

@@ -1,7 +1,9 @@
 // A file judged for a flow: its records one after the other, and then its end.
 use fault::Outcome;
 use fault::State;
+use record::BAR;
 use record::Cursor;
+use record::FEED;
 use record::Step;
 ghost use mathlib.Core.Path.{_≡_};
 ghost use mathlib.Core.Bool.{not, _||_};
@@ -88,7 +90,7 @@ fn ends_in_feed(f: &[u8]) -> bool
     if f.len() == 0 {
         return false;
     }
-    f[f.len() - 1] == 0x0A
+    f[f.len() - 1] == FEED
 }
 
 // The last line feed is there, or not needed.
@@ -135,7 +137,7 @@ pub fn judge_by(t: &[u32], fixed: &[u8], f: &[u8]) -> Verdict
         };
     }
     let class = text::class_table();
-    match judge_records(t, fixed, &class, b'|', f) {
+    match judge_records(t, fixed, &class, BAR, f) {
         Walk::Stopped {
             number,
             record,

@@ -6,15 +6,15 @@ use field::FieldAnswer;
 use field::FieldType;
 use field::Mark;
 use flow::StepAnswer;
+use printing::print_follow;
+use printing::print_numbers;
+use printing::print_transfer;
+use printing::print_truth;
+use printing::print_value;
+use printing::print_whole;
 use sheet::Transfer;
 use stream::least;
 use stream::print;
-use stream::print_follow;
-use stream::print_numbers;
-use stream::print_transfer;
-use stream::print_truth;
-use stream::print_value;
-use stream::print_whole;
 use value::Value;
 
 // The value of one field of a file.
@@ -91,7 +91,7 @@ fn read_line(flow: &[u8], file: &[u8], room: &mut [u8]) -> bool {
 // Answers a case: what is asked, the flow that its header names, the fixed value and the body behind it, and room for a result.
 pub fn answer(ask: Ask, flow: &[u8], fixed: &[u8], body: &[u8], room: &mut [u8]) -> bool {
     match ask {
-        Ask::Judge => stream::print_verdict(judge::judge(flow, body)),
+        Ask::Judge => printing::print_verdict(judge::judge(flow, body)),
         Ask::Value { record, field } => value_line(flow, record, field, body),
         Ask::Field { form, mark } => field_line(form, mark, fixed, body),
         Ask::Sum => sum_line(body),

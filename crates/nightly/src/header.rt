@@ -2,6 +2,7 @@
 use crate::broken::Fault;
 use field::FieldType;
 use field::Mark;
+use record::TAB;
 use text::same_bytes;
 use words::Form;
 use words::Marked;
@@ -9,8 +10,6 @@ use words::Number;
 ghost use mathlib.Core.Path.{_≡_};
 ghost use Rattle.record.specs.Records.{field};
 ghost use Rattle.words.specs.Spelling.{numberOf};
-
-const TAB: u8 = 0x09;
 
 // The greatest LENGTH, FIXED and ROOM, so that files over the limit can be tried.
 const LENGTH_LIMIT: usize = 1114112;

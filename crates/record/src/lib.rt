@@ -9,6 +9,13 @@ ghost use Rattle.record.specs.Eight.{low};
 ghost use Rattle.record.specs.Step.{Stepped, FieldStepped};
 ghost use Rattle.record.specs.Found.{RecordFound, FieldFound};
 
+// The byte that parts fields in a file, the one that parts them in a sheet, and the one that ends a record.
+pub const BAR: u8 = 0x7C;
+
+pub const TAB: u8 = 0x09;
+
+pub const FEED: u8 = 0x0A;
+
 // Where the first `sep` at or after `at` stands, or the end; a byte at a time, for fields, which are short.
 fn find(s: &[u8], at: usize, sep: u8) -> usize
     requires { ⌜ at ≤ length (now s) ⌝ }
@@ -119,7 +126,7 @@ impl Cursor {
         if s.len() <= at {
             return Step::Done;
         }
-        let end = find_far(s, at, 0x0A);
+        let end = find_far(s, at, FEED);
         if end < s.len() {
             Step::Record {
                 start: at,

@@ -9,19 +9,18 @@ use field::FieldAnswer;
 use field::FieldType;
 use field::Mark;
 use flow::StepAnswer;
+use printing::print_numbers;
+use printing::print_truth;
+use printing::print_value;
+use printing::print_whole;
+use record::BAR;
 use sentences::Refusal;
 use stream::Ending;
-use stream::print_numbers;
-use stream::print_truth;
-use stream::print_value;
-use stream::print_whole;
 use text::same_bytes;
 use value::Value;
 use words::Form;
 use words::Marked;
 use words::Number;
-
-const BAR: u8 = 0x7C;
 
 // Prints the value of one field of a file.
 fn value_in(flow: &[u8], file: &[u8], record: usize, field: usize) -> Ending {
@@ -168,7 +167,7 @@ fn step_by(flow: &[u8], kinds: &[u8]) -> Ending {
         }
         StepAnswer::Stopped(place) => stop(flow, kinds, place),
         StepAnswer::Through { count, complete } => {
-            well(stream::print_follow(count, complete, &follow))
+            well(printing::print_follow(count, complete, &follow))
         }
     }
 }

@@ -1,17 +1,16 @@
 // judge FLOW FILE..: files judged for a flow.
 use crate::arguments::refused;
 use judge::Verdict;
+use printing::print_numbers;
+use record::BAR;
 use sentences::Refusal;
 use stream::Ending;
 use stream::print;
 use stream::print_number;
-use stream::print_numbers;
 ghost use mathlib.Core.Path.{_≡_};
 ghost use mathlib.Core.Bool.{true};
 ghost use Prim.Native.Nat.{_+_, _^_, _<_};
 ghost use Rattle.rig.specs.Tally.{countedOf, endingOf};
-
-const BAR: u8 = 0x7C;
 
 // What came of one file; it is unwritten where its answer could not be written.
 pub enum Judged {

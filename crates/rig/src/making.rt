@@ -2,14 +2,12 @@
 use crate::arguments::load_word;
 use crate::arguments::well;
 use crate::judging::refuse;
+use printing::print_numbers;
+use record::BAR;
+use record::TAB;
 use sentences::Refusal;
 use sheet::Transfer;
 use stream::Ending;
-use stream::print_numbers;
-
-const TAB: u8 = 0x09;
-
-const BAR: u8 = 0x7C;
 
 // Fills a new file and closes it; all of it is then on the disk.
 fn fill(fd: i32, bytes: &[u8]) -> bool {

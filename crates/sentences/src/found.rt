@@ -8,21 +8,18 @@ use crate::place::Refusal;
 use crate::refusals;
 use crate::say;
 use judge::Verdict;
+use record::BAR;
 use record::Cursor;
+use record::FEED;
 use record::Found;
 use record::Step;
+use record::TAB;
 use stream::print;
 ghost use mathlib.Core.Path.{_≡_};
 ghost use Prim.Native.Nat.{ℕ};
 ghost use mathlib.Core.List.{List};
 ghost use Rattle.layout.specs.Numbers.{layoutOf};
 ghost use Rattle.sentences.specs.Footer.{footerLine};
-
-const FEED: u8 = 0x0A;
-
-const TAB: u8 = 0x09;
-
-const BAR: u8 = 0x7C;
 
 // The set of all kinds.
 const ALL: usize = 0xFFFFFFFF;

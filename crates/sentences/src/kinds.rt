@@ -1,4 +1,5 @@
 // The kinds of a flow, and which may stand where.
+use record::FEED;
 use stream::print;
 ghost use mathlib.Core.Path.{_≡_};
 ghost use Prim.Native.Nat.{ℕ};
@@ -6,8 +7,6 @@ ghost use mathlib.Core.List.{List};
 ghost use Rattle.record.specs.Records.{field};
 ghost use Rattle.layout.specs.Numbers.{layoutOf};
 ghost use Rattle.fault.specs.Record.{kindOf};
-
-const FEED: u8 = 0x0A;
 
 // The kind of line n of a file or a sheet; 0, the start, where there is no such line or kind.
 pub fn kind_at(t: &[u32], sep: u8, file: &[u8], n: usize) -> usize

@@ -1,9 +1,8 @@
 // Where a refusal is.
 use crate::kinds;
 use crate::say;
+use record::TAB;
 use stream::print;
-
-const TAB: u8 = 0x09;
 
 // A refusal: its number, record and field.
 pub struct Refusal {

@@ -1,6 +1,9 @@
 // Sheets: a file written from one, and one read from a file.
 use judge::Verdict;
 use judge::Walk;
+use record::BAR;
+use record::FEED;
+use record::TAB;
 ghost use mathlib.Core.Path.{_≡_};
 ghost use mathlib.Core.Bool.{_||_};
 ghost use mathlib.Core.List.{List, _++_, _∷_, []};
@@ -14,12 +17,6 @@ ghost use Rattle.sheet.specs.Sheets.{footer as footerOf, barLine, butLas
 ghost use Rattle.sheet.specs.Write.{linesEnded, Wrote};
 ghost use Rattle.sheet.specs.Read.{Read};
 ghost use Rattle.sheet.specs.Code.{LinesRight, MadeRight, put};
-
-const TAB: u8 = 0x09;
-
-const BAR: u8 = 0x7C;
-
-const FEED: u8 = 0x0A;
 
 // A file or sheet handed over, with its records and bytes; or a refusal, and no byte touched.
 pub enum Transfer {

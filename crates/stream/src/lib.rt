@@ -1,5 +1,5 @@
-// Standard input, whole or through a lent window, files by name, lines of words on standard output,
-// sentences on standard error, and how a run ends. Nothing is lost in silence.
+// Standard input, whole or through a lent window, files by name, bytes on standard output, sentences on
+// standard error, and how a run ends. Nothing is lost in silence.
 mod calls;
 mod complaint;
 mod ending;
@@ -23,13 +23,8 @@ pub use input::Reading;
 pub use input::Unread;
 pub use input::more;
 pub use line::least;
+pub use line::put;
+pub use line::put_number;
 pub use output::print;
-pub use output::print_follow;
 pub use output::print_number;
-pub use output::print_numbers;
 pub use output::print_shown;
-pub use output::print_transfer;
-pub use output::print_truth;
-pub use output::print_value;
-pub use output::print_verdict;
-pub use output::print_whole;

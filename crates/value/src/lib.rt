@@ -3,6 +3,7 @@ use field::FieldAnswer;
 use field::FieldType;
 use field::Mark;
 use judge::Verdict;
+use record::BAR;
 use record::Found;
 ghost use mathlib.Core.Path.{_≡_};
 ghost use mathlib.Core.List.{List};
@@ -72,7 +73,7 @@ fn value_by(t: &[u32], fixed: &[u8], f: &[u8], n: usize, k: usize) -> Value
         };
     };
     let r = &f[start..end];
-    let Found::At { start: a, end: e } = record::field_at(b'|', r, k) else {
+    let Found::At { start: a, end: e } = record::field_at(BAR, r, k) else {
         return Value::Refused {
             number: 18,
             record: n,
@@ -85,7 +86,7 @@ fn value_by(t: &[u32], fixed: &[u8], f: &[u8], n: usize, k: usize) -> Value
             to: start + e,
         };
     }
-    let j = fault::kind_of(t, b'|', r);
+    let j = fault::kind_of(t, BAR, r);
     as_value(
         answer_by(t, fixed, j, k, &r[a..e]),
         n,

@@ -1,9 +1,9 @@
 -- `size` is right: below zero the flipped bits are one less than the size, and from zero on the bits are the size.
 use native.Mathlib.Omega.{arith}
 use borrow.Author.Needs.{needs}
-use Rattle.stream.proofs.Signs.{flipped, one-more, plain}
-use Rattle.stream.proofs.output.size.Statement.{statement}
-use Rattle.stream.proofs.output.size.Tie as tie
+use Rattle.printing.proofs.Signs.{flipped, one-more, plain}
+use Rattle.printing.proofs.size.Statement.{statement}
+use Rattle.printing.proofs.size.Tie as tie
 
 cast-result : tie.Need-cast-result
 cast-result c = rw (flipped (c .before .args .n) (c .before .fits .n) (c .if1 .taken)) (tt, record { fits = omega (arith, c .before .fits .n .sfits) })
