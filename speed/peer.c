@@ -3,9 +3,10 @@
 
 enum type { TEXT, INT, DEC, DATE, DATETIME, BOL, PERIOD, NUL };
 enum mark { BARE, OPT, FIXED };
+enum order { STRICT, EQUAL_ALLOWED };
 
 struct rule { enum type type; int width, places; enum mark mark; const char *value; };
-struct kind { char name[4]; unsigned follow; int fields; struct rule rule[7]; int key, head; };
+struct kind { char name[4]; unsigned follow; int fields; struct rule rule[7]; int key, head; enum order order; };
 struct flow { char name[9]; int feed; unsigned first; int kinds; struct kind kind[7]; };
 
 #define T(n) { TEXT, n, 0, BARE, 0 }
@@ -14,45 +15,47 @@ struct flow { char name[9]; int feed; unsigned first; int kinds; struct kind kin
 #define I(n) { INT, n, 0, BARE, 0 }
 #define D(p, q) { DEC, p, q, BARE, 0 }
 #define DAY { DATE, 0, 0, BARE, 0 }
+#define NO_KEY 0, 0, STRICT
 #define HEADER(flow, from, to, next) \
-    { "ZHD", next, 6, { T_IS(8, flow), from, T(4), to, T(4), { DATETIME, 0, 0, BARE, 0 } }, 0, 0 }
-#define FOOTER { "ZPT", 0, 2, { I(10), I(10) }, 0, 0 }
+    { "ZHD", next, 6, { T_IS(8, flow), from, T(4), to, T(4), { DATETIME, 0, 0, BARE, 0 } }, NO_KEY }
+#define FOOTER { "ZPT", 0, 2, { I(10), I(10) }, NO_KEY }
 #define BIT(k) (1u << (k))
 
-// Kinds count from 1; the last is the footer. A key field counts the kind as field 1; head is the kind that starts the key anew.
+// Kinds count from 1; the last is the footer. A key field counts the kind as field 1; head is the kind that starts the key anew;
+// order says whether a key may be equal to the one before.
 static const struct flow flows[] = {
     { "P0012001", 1, BIT(1), 6, {
         HEADER("P0012001", T(1), T(1), BIT(2)),
-        { "ZPD", BIT(3), 5, { DAY, T_OPT(2), T_OPT(2), I(7), T(2) }, 0, 0 },
-        { "HDR", BIT(4) | BIT(5) | BIT(6), 3, { I(10), T(2), I(13) }, 0, 0 },
-        { "GSP", BIT(4) | BIT(6), 3, { { PERIOD, 0, 0, BARE, 0 }, I(13), D(14, 4) }, 2, 0 },
-        { "GS2", BIT(5) | BIT(6), 3, { { PERIOD, 0, 0, BARE, 0 }, { INT, 1, 0, FIXED, "0" }, D(14, 4) }, 2, 0 },
+        { "ZPD", BIT(3), 5, { DAY, T_OPT(2), T_OPT(2), I(7), T(2) }, NO_KEY },
+        { "HDR", BIT(4) | BIT(5) | BIT(6), 3, { I(10), T(2), I(13) }, NO_KEY },
+        { "GSP", BIT(4) | BIT(6), 3, { { PERIOD, 0, 0, BARE, 0 }, I(13), D(14, 4) }, 2, 0, STRICT },
+        { "GS2", BIT(5) | BIT(6), 3, { { PERIOD, 0, 0, BARE, 0 }, { INT, 1, 0, FIXED, "0" }, D(14, 4) }, 2, 0, STRICT },
         FOOTER } },
     { "P0181002", 1, BIT(1), 5, {
         HEADER("P0181002", T(1), T(1), BIT(2)),
-        { "GS7", BIT(2) | BIT(3) | BIT(5), 1, { T(2) }, 0, 0 },
-        { "SUP", BIT(4), 1, { T(4) }, 2, 2 },
-        { "BMU", BIT(2) | BIT(3) | BIT(4) | BIT(5), 4, { T(11), DAY, { DATE, 0, 0, OPT, 0 }, { BOL, 0, 0, BARE, 0 } }, 2, 3 },
+        { "GS7", BIT(2) | BIT(3) | BIT(5), 1, { T(2) }, NO_KEY },
+        { "SUP", BIT(4), 1, { T(4) }, 2, 2, STRICT },
+        { "BMU", BIT(2) | BIT(3) | BIT(4) | BIT(5), 4, { T(11), DAY, { DATE, 0, 0, OPT, 0 }, { BOL, 0, 0, BARE, 0 } }, 2, 3, STRICT },
         FOOTER } },
     { "P0133001", 0, BIT(1), 4, {
         HEADER("P0133001", T_IS(1, "Z"), T_IS(1, "Z"), BIT(2) | BIT(4)),
-        { "SB1", BIT(2) | BIT(3) | BIT(4), 5, { T_IS(1, "H"), T_IS(1, "M"), T(8), DAY, T_IS(1, "M") }, 0, 0 },
-        { "CM1", BIT(2) | BIT(3) | BIT(4), 4, { T_OPT(2), I(7), D(4, 1), I(7) }, 0, 0 },
+        { "SB1", BIT(2) | BIT(3) | BIT(4), 5, { T_IS(1, "H"), T_IS(1, "M"), T(8), DAY, T_IS(1, "M") }, NO_KEY },
+        { "CM1", BIT(2) | BIT(3) | BIT(4), 4, { T_OPT(2), I(7), D(4, 1), I(7) }, NO_KEY },
         FOOTER } },
     { "P0134001", 0, BIT(1), 4, {
         HEADER("P0134001", T_IS(1, "Z"), T_IS(1, "Z"), BIT(2) | BIT(4)),
-        { "SB2", BIT(2) | BIT(3) | BIT(4), 4, { T_IS(1, "M"), T(8), DAY, T_IS(1, "M") }, 0, 0 },
-        { "CM2", BIT(2) | BIT(3) | BIT(4), 5, { T_OPT(2), I(7), I(7), D(4, 1), D(4, 1) }, 0, 0 },
+        { "SB2", BIT(2) | BIT(3) | BIT(4), 4, { T_IS(1, "M"), T(8), DAY, T_IS(1, "M") }, NO_KEY },
+        { "CM2", BIT(2) | BIT(3) | BIT(4), 5, { T_OPT(2), I(7), I(7), D(4, 1), D(4, 1) }, NO_KEY },
         FOOTER } },
     { "P0138001", 0, BIT(1), 4, {
         HEADER("P0138001", T_IS(1, "G"), T_IS(1, "Z"), BIT(2)),
-        { "SUB", BIT(3), 5, { T_IS(1, "B"), { NUL, 0, 0, BARE, 0 }, { NUL, 0, 0, BARE, 0 }, DAY, T_IS(1, "M") }, 0, 0 },
-        { "TA2", BIT(4), 1, { D(5, 4) }, 0, 0 },
+        { "SUB", BIT(3), 5, { T_IS(1, "B"), { NUL, 0, 0, BARE, 0 }, { NUL, 0, 0, BARE, 0 }, DAY, T_IS(1, "M") }, NO_KEY },
+        { "TA2", BIT(4), 1, { D(5, 4) }, NO_KEY },
         FOOTER } },
     { "P0164001", 0, BIT(1), 4, {
         HEADER("P0164001", T_IS(1, "G"), T_IS(1, "Z"), BIT(2) | BIT(4)),
-        { "SUB", BIT(2) | BIT(3) | BIT(4), 5, { T_IS(1, "B"), T_IS(1, "X"), T(4), DAY, T_IS(1, "M") }, 0, 0 },
-        { "SP7", BIT(2) | BIT(3) | BIT(4), 6, { T(2), T(4), T(1), DAY, T(2), I(10) }, 5, 2 },
+        { "SUB", BIT(2) | BIT(3) | BIT(4), 5, { T_IS(1, "B"), T_IS(1, "X"), T(4), DAY, T_IS(1, "M") }, NO_KEY },
+        { "SP7", BIT(2) | BIT(3) | BIT(4), 6, { T(2), T(4), T(1), DAY, T(2), I(10) }, 5, 2, EQUAL_ALLOWED },
         FOOTER } },
 };
 
@@ -162,10 +165,14 @@ static int check_field(const struct rule *r, const unsigned char *s, size_t n) {
     return 0;
 }
 
-static int key_above(enum type t, const unsigned char *old, size_t m, const unsigned char *s, size_t n) {
-    if (t != TEXT) return number(old, m) < number(s, n);
-    int c = memcmp(old, s, m < n ? m : n);
-    return c < 0 || (c == 0 && m < n);
+// The key against the old one: less than 0 below, 0 equal, more than 0 above.
+static int compare_keys(enum type t, const unsigned char *s, size_t n, const unsigned char *old, size_t m) {
+    if (t != TEXT) {
+        uint64_t key = number(s, n), before = number(old, m);
+        return (key > before) - (key < before);
+    }
+    int c = memcmp(s, old, n < m ? n : m);
+    return c ? c : (n > m) - (n < m);
 }
 
 // The running checksum with one record more, its separators counted as bars.
@@ -217,8 +224,10 @@ static int check_record(const struct flow *f, struct state *st, const unsigned c
     }
     if (kind->key) {
         int i = kind->key - 2;
-        if (st->seen[k] > st->seen[kind->head] && !key_above(kind->rule[i].type, st->key[k], st->key_len[k], field[i], len[i]))
-            return refuse(a, 11, at, kind->key);
+        if (st->seen[k] > st->seen[kind->head]) {
+            int c = compare_keys(kind->rule[i].type, field[i], len[i], st->key[k], st->key_len[k]);
+            if (c < 0 || (c == 0 && kind->order == STRICT)) return refuse(a, 11, at, kind->key);
+        }
         st->key[k] = field[i], st->key_len[k] = len[i];
     }
     if (k == f->kinds) {

@@ -99,12 +99,13 @@ impl Pen<'_> {
     }
 }
 
-/// The fields of a kind from field 2 on, and its key, in document 01's spelling.
+/// The fields of a kind from field 2 on, and its key, in the papers' spelling.
 fn fields(layout: &Layout) -> String {
     let rules: Vec<String> = layout.rules.iter().map(spelled).collect();
     let key = match layout.key {
         Some(key) => {
-            format!("; key: field {} within {}", key.field, String::from_utf8_lossy(&key.head))
+            let repeat = if key.equal_allowed { ", may repeat" } else { "" };
+            format!("; key: field {} within {}{}", key.field, String::from_utf8_lossy(&key.head), repeat)
         }
         None => String::new(),
     };

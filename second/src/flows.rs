@@ -1,4 +1,5 @@
 //! The six flows, in document 01's words: nested sets, field types, keys, last line feed.
+//! Which keys may be equal is document 02's C-11.
 
 use crate::field::{Mark, Type};
 use crate::grammar::{any_number, either, in_turn, one, one_or_more, Kind, Set};
@@ -24,11 +25,13 @@ pub struct Rule {
     pub mark: Mark,
 }
 
-/// A key's field, counted with the kind, and the kind that heads the set it rises in.
+/// A key's field, counted with the kind, and the kind that heads the set it is ordered in.
 #[derive(Clone, Copy)]
 pub struct Key {
     pub field: usize,
     pub head: Kind,
+    /// Whether a key may be equal to the one before; it may never be below.
+    pub equal_allowed: bool,
 }
 
 impl Flow {
@@ -62,8 +65,8 @@ fn p0012() -> Flow {
         vec![
             layout(b"ZPD", "date, text(2) opt, text(2) opt, int(7), text(2)"),
             layout(b"HDR", "int(10), text(2), int(13)"),
-            layout(b"GSP", "period, int(13), dec(14,4)").key(2, b"HDR"),
-            layout(b"GS2", "period, int(1) =0, dec(14,4)").key(2, b"HDR"),
+            layout(b"GSP", "period, int(13), dec(14,4)").strict_key(2, b"HDR"),
+            layout(b"GS2", "period, int(1) =0, dec(14,4)").strict_key(2, b"HDR"),
         ],
     )
     .with_last_line_feed()
@@ -78,8 +81,8 @@ fn p0181() -> Flow {
         one_or_more(gs7_set),
         vec![
             layout(b"GS7", "text(2)"),
-            layout(b"SUP", "text(4)").key(2, b"GS7"),
-            layout(b"BMU", "text(11), date, date opt, bol").key(2, b"SUP"),
+            layout(b"SUP", "text(4)").strict_key(2, b"GS7"),
+            layout(b"BMU", "text(11), date, date opt, bol").strict_key(2, b"SUP"),
         ],
     )
     .with_last_line_feed()
@@ -125,7 +128,7 @@ fn p0164() -> Flow {
         any_number(in_turn([one(b"SUB"), any_number(one(b"SP7"))])),
         vec![
             layout(b"SUB", "text(1) =B, text(1) =X, text(4), date, text(1) =M"),
-            layout(b"SP7", "text(2), text(4), text(1), date, text(2), int(10)").key(5, b"SUB"),
+            layout(b"SP7", "text(2), text(4), text(1), date, text(2), int(10)").repeating_key(5, b"SUB"),
         ],
     )
 }
@@ -148,8 +151,14 @@ impl Flow {
 }
 
 impl Layout {
-    fn key(self, field: usize, head: &[u8; 3]) -> Layout {
-        Layout { key: Some(Key { field, head: *head }), ..self }
+    /// Each key must stand above the one before.
+    fn strict_key(self, field: usize, head: &[u8; 3]) -> Layout {
+        Layout { key: Some(Key { field, head: *head, equal_allowed: false }), ..self }
+    }
+
+    /// Each key must stand above the one before, or be equal to it.
+    fn repeating_key(self, field: usize, head: &[u8; 3]) -> Layout {
+        Layout { key: Some(Key { field, head: *head, equal_allowed: true }), ..self }
     }
 }
 

@@ -5,6 +5,7 @@ use crate::field::{judge_field, Type, Value};
 use crate::flows::{named, Flow, Key, Layout};
 use crate::grammar::Set;
 use crate::refusal::Refusal;
+use std::cmp::Ordering;
 use std::sync::Arc;
 
 pub const FILE_LIMIT: usize = 1_048_576;
@@ -77,29 +78,31 @@ fn judge_record(flow: &Flow, left: &Arc<Set>, records: &[&[u8]]) -> Result<Arc<S
     Ok(left)
 }
 
-/// The key must stand above that of the nearest record of its kind before, unless a head
-/// of its set is nearer. Looking back stops at the first of either.
+/// A key is out of its order where it is below that of the nearest record of its kind before, or
+/// equal to it and that is not allowed, unless a head of its set is nearer. Looking back stops at
+/// the first of either.
 fn judge_key(layout: &Layout, key: Key, fields: &[&[u8]], before: &[&[u8]]) -> Result<(), Fault> {
     let nearest =
         before.iter().rev().find(|record| kind_of(record) == layout.kind || kind_of(record) == key.head);
     match nearest {
         Some(record) if kind_of(record) == layout.kind => {
             let form = layout.rules[key.field - 2].form;
-            if is_above(form, fields[key.field - 1], fields_of(record)[key.field - 1]) {
-                Ok(())
-            } else {
-                Err((11, key.field))
+            match compared(form, fields[key.field - 1], fields_of(record)[key.field - 1]) {
+                Ordering::Greater => Ok(()),
+                Ordering::Equal if key.equal_allowed => Ok(()),
+                Ordering::Equal | Ordering::Less => Err((11, key.field)),
             }
         }
         _ => Ok(()),
     }
 }
 
+/// Whether the key is below the one before, equal to it or above it.
 /// Texts go by byte, a shorter one before one that continues it; the rest go by value.
-fn is_above(form: Type, key: &[u8], before: &[u8]) -> bool {
+fn compared(form: Type, key: &[u8], before: &[u8]) -> Ordering {
     match (whole_number(form, key), whole_number(form, before)) {
-        (Some(key), Some(before)) => key > before,
-        _ => key > before,
+        (Some(key), Some(before)) => key.cmp(&before),
+        _ => key.cmp(before),
     }
 }
 

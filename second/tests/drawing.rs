@@ -24,3 +24,12 @@ fn the_sets_are_named_as_document_01_has_them() {
     assert_eq!(counts("P0012001", "any number"), 2);
     assert_eq!(counts("P0138001", "any number"), 0);
 }
+
+#[test]
+fn the_key_of_sp7_alone_may_repeat() {
+    for flow in published() {
+        let repeating = picture(flow).matches("key: field 5 within SUB, may repeat<").count();
+        assert_eq!(repeating, usize::from(flow.name == "P0164001"), "{}", flow.name);
+        assert_eq!(picture(flow).matches("may repeat").count(), repeating, "{}", flow.name);
+    }
+}

@@ -1,16 +1,18 @@
 //! The generator: good drafts are good, every refusal is reached, the same seed is the same stream.
 
-use second::bytes::{checksum, is_text, records_of};
+use second::bytes::{checksum, fields_of, is_text, kind_of, records_of};
 use second::cases::dice::Dice;
 use second::cases::draft::Draft;
 use second::cases::faults::{put_fault, spoil, Place, PLACES};
 use second::cases::values::TEXT;
 use second::cases::Generator;
 use second::census::census;
-use second::flows::published;
+use second::flows::{named, published};
 use second::judge::{judge, FILE_LIMIT};
+use second::refusal::Refusal;
 use second::sheet::{made_file, made_sheet, read, write, SHEET_LIMIT};
 use second::stream::{cases_of, Ask, CASE_KINDS};
+use std::collections::BTreeSet;
 
 fn generator(seed: u64, kinds: &str) -> Generator {
     Generator::new(seed, kinds).expect("these kinds of case exist")
@@ -31,7 +33,7 @@ fn the_stream_of_seed_1_on_any_machine() {
     let sum = stream
         .iter()
         .fold(0xcbf2_9ce4_8422_2325_u64, |sum, &byte| (sum ^ u64::from(byte)).wrapping_mul(0x0100_0000_01b3));
-    assert_eq!((stream.len(), sum), (4_643_657, 11_982_769_360_317_238_872));
+    assert_eq!((stream.len(), sum), (4_639_159, 1_858_170_934_981_547_340));
 }
 
 #[test]
@@ -167,6 +169,72 @@ fn streams_read_sheets_that_are_longer_than_the_writer_takes() {
         _ => false,
     });
     assert!(long.count() > 0);
+}
+
+/// The kind of the record that is refused with 11, and whether its key is equal to the one before.
+fn refused_key(flow: &[u8], file: &[u8]) -> Option<(String, bool)> {
+    let (record, field) = match judge(flow, file) {
+        Err(Refusal { number: 11, record, field }) => (record, field),
+        _ => return None,
+    };
+    let records = records_of(file);
+    let (refused, before) = records[..record].split_last()?;
+    let nearest = before.iter().rev().find(|other| kind_of(other) == kind_of(refused))?;
+    let is_equal = fields_of(refused)[field - 1] == fields_of(nearest)[field - 1];
+    Some((String::from_utf8_lossy(kind_of(refused)).into_owned(), is_equal))
+}
+
+#[test]
+fn streams_spoil_each_key_in_each_way_that_is_wrong() {
+    let stream = generator(6, "judge").stream(3000);
+    let refused: BTreeSet<(String, bool)> = cases_of(&stream)
+        .filter_map(|case| match case.expect("a good header").ask {
+            Ask::Judge { flow, file } => refused_key(flow, file),
+            _ => None,
+        })
+        .collect();
+    let kinds = |equal: bool| -> Vec<&str> {
+        refused.iter().filter(|(_, is_equal)| *is_equal == equal).map(|(kind, _)| kind.as_str()).collect()
+    };
+    assert_eq!(kinds(true), ["BMU", "GS2", "GSP", "SUP"]);
+    assert_eq!(kinds(false), ["BMU", "GS2", "GSP", "SP7", "SUP"]);
+}
+
+#[test]
+fn streams_hold_good_files_with_one_date_in_several_rows() {
+    let stream = generator(6, "judge").stream(1000);
+    let is_repeated = |pair: &[&[u8]]| {
+        pair.iter().all(|record| kind_of(record) == b"SP7") && fields_of(pair[0])[4] == fields_of(pair[1])[4]
+    };
+    let repeating = cases_of(&stream).filter(|case| match case.as_ref().expect("a good header").ask {
+        Ask::Judge { flow, file } => {
+            judge(flow, file).is_ok() && records_of(file).windows(2).any(is_repeated)
+        }
+        _ => false,
+    });
+    assert!(repeating.count() >= 10);
+}
+
+/// Spoils the key in a file with two rows of one date; tells whether it could, and the refusal.
+fn spoiled_date(date: &str, place: Place) -> (bool, u8) {
+    let row = format!("SP7|_A|NHHD|A|{}|SF|12", date);
+    let rows = ["ZHD|P0164001|G|SVAA|Z|POOL|20240105120000", "SUB|B|X|SUPP|20240105|M", &row, &row, "ZPT||"];
+    let fields = |row: &&str| row.split('|').map(|field| field.as_bytes().to_vec()).collect();
+    let mut draft = Draft {
+        flow: named(b"P0164001").expect("a flow"),
+        records: rows.iter().map(fields).collect(),
+        last_line_feed: true,
+    };
+    draft.refoot();
+    (put_fault(&mut draft, 11, place, &mut Dice::new(1, 1)), number_of(&draft))
+}
+
+#[test]
+fn no_date_falls_below_the_earliest() {
+    for place in PLACES {
+        assert_eq!(spoiled_date("00010101", place), (false, 0));
+        assert_eq!(spoiled_date("00010102", place), (true, 11));
+    }
 }
 
 #[test]

@@ -185,7 +185,7 @@ fn l23_gs7_has_no_key() {
 
 #[test]
 fn l24_the_key_of_sp7_is_its_date() {
-    assert_eq!(judged_with("P0164001", 4, 5, b"20240101"), Err((11, 4, 5)));
+    assert_eq!(judged_with("P0164001", 4, 5, b"20240101"), Ok(7));
     assert_eq!(judged_with("P0164001", 4, 5, b"20231231"), Err((11, 4, 5)));
     assert_eq!(judged_with("P0164001", 4, 2, b"ZZ"), Ok(7));
 }

@@ -1,7 +1,7 @@
 //! Drafts: a file as records of fields, grown along the grammar, good to begin with.
 
 use super::dice::Dice;
-use super::keys::key_above;
+use super::keys::key_in_order;
 use super::values::{good, letters};
 use crate::bytes::{checksum, BAR, LINE_FEED, TAB};
 use crate::field::{Mark, Type};
@@ -139,7 +139,7 @@ fn joined(records: &[Fields], separator: u8, last_line_feed: bool) -> Vec<u8> {
     bytes
 }
 
-/// A record of a kind that the grammar has here, by the kinds' weights, its key above the last.
+/// A record of a kind that the grammar has here, by the kinds' weights, its key in its order.
 /// What is left moves on behind it.
 fn next_record(
     flow: &Flow,
@@ -159,7 +159,7 @@ fn next_record(
         let mut key = None;
         if let Some(own) = layout.key {
             let before = keys.get(&layout.kind).map(Vec::as_slice);
-            key = key_above(layout.rules[own.field - 2].form, before, dice);
+            key = key_in_order(layout.rules[own.field - 2].form, own, before, dice);
             if key.is_none() {
                 continue;
             }

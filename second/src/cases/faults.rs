@@ -3,7 +3,7 @@
 use super::dice::Dice;
 use super::draft::{good_record, Draft};
 use super::footers::{wrong_checksum, wrong_count};
-use super::keys::key_not_above;
+use super::keys::key_out_of_order;
 use super::values::{bad_form, bad_range, good, letters};
 use crate::field::{Mark, Type};
 use crate::flows::{Layout, Rule};
@@ -217,7 +217,7 @@ fn bad_field(draft: &mut Draft, number: u8, place: Place, dice: &mut Dice) -> bo
     true
 }
 
-/// A key that is not above the one before it in its set.
+/// A key out of its order behind the one before it in its set.
 fn bad_key(draft: &mut Draft, place: Place, dice: &mut Dice) -> bool {
     for record in from_place(place, draft.records.len(), dice) {
         let fields = &draft.records[record];
@@ -228,9 +228,11 @@ fn bad_key(draft: &mut Draft, place: Place, dice: &mut Dice) -> bool {
         };
         let before = draft.records[..record].iter().rev();
         let nearest = before.clone().find(|other| other[0] == fields[0] || other[0] == key.head);
-        if let Some(nearest) = nearest.filter(|nearest| nearest[0] == fields[0]) {
-            let form = layout.rules[key.field - 2].form;
-            let value = key_not_above(form, &nearest[key.field - 1], dice);
+        let form = layout.rules[key.field - 2].form;
+        let value = nearest
+            .filter(|nearest| nearest[0] == fields[0])
+            .and_then(|nearest| key_out_of_order(form, key, &nearest[key.field - 1], dice));
+        if let Some(value) = value {
             draft.records[record][key.field - 1] = value;
             return true;
         }

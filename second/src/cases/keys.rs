@@ -1,16 +1,38 @@
-//! Keys: values that stand above a given one, and values that do not.
+//! Keys: values that are in order behind a given one, and values that are not.
 
 use super::dice::Dice;
 use super::values::{date_of, first_and_last_day, good, letters, TEXT};
 use crate::calendar::day_number;
 use crate::field::Type;
+use crate::flows::Key;
+
+/// One in so many keys is equal to the one before, where that is allowed.
+const EQUAL: usize = 3;
+
+/// A good value in its order behind the one before: above it, or now and then equal to it
+/// where that is allowed. None where one above is wanted and there is none.
+pub fn key_in_order(form: Type, key: Key, before: Option<&[u8]>, dice: &mut Dice) -> Option<Vec<u8>> {
+    match before {
+        None => Some(first_key(form, dice)),
+        Some(before) if key.equal_allowed && dice.one_in(EQUAL) => Some(before.to_vec()),
+        Some(before) => key_above(form, before, dice),
+    }
+}
+
+/// A good value out of its order behind the one before, if there is any: below it, or equal
+/// to it where that is not allowed.
+pub fn key_out_of_order(form: Type, key: Key, before: &[u8], dice: &mut Dice) -> Option<Vec<u8>> {
+    if key.equal_allowed {
+        key_below(form, before, dice)
+    } else if dice.one_in(2) {
+        Some(before.to_vec())
+    } else {
+        key_below(form, before, dice).or_else(|| Some(before.to_vec()))
+    }
+}
 
 /// A good value above the one before, if there is any.
-pub fn key_above(form: Type, before: Option<&[u8]>, dice: &mut Dice) -> Option<Vec<u8>> {
-    let before = match before {
-        Some(before) => before,
-        None => return Some(first_key(form, dice)),
-    };
+fn key_above(form: Type, before: &[u8], dice: &mut Dice) -> Option<Vec<u8>> {
     match form {
         Type::Period => {
             let next = period(before) + *dice.pick(&[1, 1, 1, 2, 5]);
@@ -33,16 +55,25 @@ pub fn key_above(form: Type, before: Option<&[u8]>, dice: &mut Dice) -> Option<V
     }
 }
 
-/// A good value that is the one before or stands below it.
-pub fn key_not_above(form: Type, before: &[u8], dice: &mut Dice) -> Vec<u8> {
-    if dice.one_in(2) {
-        return before.to_vec();
-    }
+/// A good value below the one before, if the dice find one.
+fn key_below(form: Type, before: &[u8], dice: &mut Dice) -> Option<Vec<u8>> {
     match form {
-        Type::Period => dice.between(1, period(before)).to_string().into_bytes(),
+        Type::Period => {
+            let most = period(before) - 1;
+            if most >= 1 {
+                Some(dice.between(1, most).to_string().into_bytes())
+            } else {
+                None
+            }
+        }
         Type::Date => {
+            let first = first_and_last_day().0;
             let back = *dice.pick(&[1, 30, 400, 4000]);
-            date_of((day(before) - back).max(first_and_last_day().0))
+            if day(before) > first {
+                Some(date_of((day(before) - back).max(first)))
+            } else {
+                None
+            }
         }
         _ => text_below(before, dice),
     }
@@ -101,16 +132,16 @@ fn text_above(before: &[u8], n: usize, dice: &mut Dice) -> Option<Vec<u8>> {
     }
 }
 
-/// A part of the text from its start, or the text with one character lowered.
-fn text_below(before: &[u8], dice: &mut Dice) -> Vec<u8> {
+/// A part of the text from its start, or the text with one character lowered, if it can be.
+fn text_below(before: &[u8], dice: &mut Dice) -> Option<Vec<u8>> {
     let place = dice.below(before.len());
     let (lower, _) = below_and_above(before[place]);
     let start = &before[..place];
     if !start.is_empty() && !start.ends_with(b" ") && dice.one_in(2) {
-        start.to_vec()
+        Some(start.to_vec())
     } else if lower.is_empty() {
-        before.to_vec()
+        None
     } else {
-        [start, &[*dice.pick(lower)], &before[place + 1..]].concat()
+        Some([start, &[*dice.pick(lower)], &before[place + 1..]].concat())
     }
 }
