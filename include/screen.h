@@ -27,7 +27,7 @@
       2 file or sheet too long    8 form of a field                14 records end before ZPT
       3 record over 512 bytes     9 range of a field               15 last line feed absent
       4 no kind of this flow     10 fixed value or null differs    16 bar in a sheet
-      5 kind not allowed here    11 key not above the one before   17 out too short
+      5 kind not allowed here    11 key out of its order           17 out too short
       6 wrong number of fields   12 record count wrong             18 no such record, field, width or code */
 #ifndef SCREEN_H
 #define SCREEN_H

@@ -1,6 +1,6 @@
--- Document 01's answers as one table under one theorem: each refusal, each pair of neighbours in the order, the limits, the sheets,
--- the steps, and of each flow every field. Where a definition and the code behind it misread the paper alike, the proofs of the other crates
--- hold and this one fails. Assumes nothing.
+-- The papers' answers as one table under one theorem: each refusal, each pair of neighbours in the order, the limits, the sheets,
+-- the steps, of each flow every field, and what document 02 asks. Where a definition and the code behind it misread a paper alike, the proofs
+-- of the other crates hold and this one fails. Assumes nothing.
 use mathlib.Core.Path.{refl}
 use mathlib.Core.List.{List, _++_}
 use Rattle.text.specs.Characters.{isDigit, isText}
@@ -37,19 +37,20 @@ use Rattle.answers.proofs.P0133.{p0133}
 use Rattle.answers.proofs.P0134.{p0134}
 use Rattle.answers.proofs.P0138.{p0138}
 use Rattle.answers.proofs.P0164.{p0164}
+use Rattle.answers.proofs.SameDate.{sameDate}
 
 -- the cases that are computed; where they fail, fewer of them at a time show which
 unfoldable pub computed : List Case
-computed = refusals ++ neighbours ++ steps ++ p0012 ++ p0181 ++ p0133 ++ p0134 ++ p0138 ++ p0164
+computed = refusals ++ neighbours ++ steps ++ p0012 ++ p0181 ++ p0133 ++ p0134 ++ p0138 ++ p0164 ++ sameDate
 
 computed-right : Right computed
-unfolding computed refusals neighbours steps p0012 p0181 p0133 p0134 p0138 p0164 copies given expected behind joined onto records fields field extent turned holds words addRecord checksum checksumOf minus unsigned plain intForm intValue decForm decValue spelled decimalIn decimal leap daysIn isDay isDate isTime textForm bolForm periodRange form range valueOf widthRight filled fieldAnswer judgedAs fieldJudged keyOrder numberOrder textOrder digitsOrder wholeOrder among find flowNumber isDigit isText fieldFault fieldsFault lastKind keyWith keyBefore placeFault shapeFault keyFault footerFault kindFault fault checkedFrom ended judgedBy verdict judged isThere placeOf fieldValue valueBy valueIn valued footer made barLine butLast sheetOf written readTo kindsIn followersFrom stepped
+unfolding computed refusals neighbours steps p0012 p0181 p0133 p0134 p0138 p0164 sameDate copies given expected behind joined onto records fields field extent turned holds words addRecord checksum checksumOf minus unsigned plain intForm intValue decForm decValue spelled decimalIn decimal leap daysIn isDay isDate isTime textForm bolForm periodRange form range valueOf widthRight filled fieldAnswer judgedAs fieldJudged keyOrder numberOrder textOrder digitsOrder wholeOrder among find flowNumber isDigit isText fieldFault fieldsFault lastKind keyWith keyBefore placeFault shapeFault keyFault footerFault kindFault fault checkedFrom ended judgedBy verdict judged isThere placeOf fieldValue valueBy valueIn valued footer made barLine butLast sheetOf written readTo kindsIn followersFrom stepped
 computed-right = refl
 
 unfoldable pub table : List Case
 table = limits ++ sheets ++ computed
 
--- each is answered as document 01 says
+-- each is answered as the papers say
 pub answers-right : Right table
 unfolding table
 answers-right = both-right (limits ++ sheets) computed (both-right limits sheets limits-right sheets-right) computed-right

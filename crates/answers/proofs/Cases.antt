@@ -1,4 +1,4 @@
--- A case of document 01: a call of a public part, and what the paper answers. Assumes nothing.
+-- A case of the papers: a call of a public part, and what they answer. Assumes nothing.
 use Prim.Native.Nat.{ℕ, zero, suc}
 use Prim.Native.String.{String}
 use mathlib.Core.Path.{_≡_, refl, sym, ap, _∙_}
@@ -50,7 +50,7 @@ pub data Said : Type 0 where
   ofSum : ℕ → Said
   ofStep : Stepped → Said
 
--- a call, and after it what document 01 says
+-- a call, and after it what the papers say
 pub data Case : Type 0 where
   -- a flow and a file
   judging : String → List ℕ → judge.Reply → Case
@@ -81,7 +81,7 @@ given (ofType t m s r) = ofField (fieldJudged t m (bytes s))
 given (summing s n) = ofSum (checksumOf s)
 given (stepping flow kinds r) = ofStep (stepped (bytes flow) (bytes kinds))
 
--- the answer by document 01
+-- the answer by the papers
 unfoldable pub expected : Case → Said
 expected (judging flow f r) = ofFile r
 expected (writing flow s old r new) = ofSheet r new
@@ -91,7 +91,7 @@ expected (ofType t m s r) = ofField r
 expected (summing s n) = ofSum n
 expected (stepping flow kinds r) = ofStep r
 
--- all of some cases are answered as document 01 says
+-- all of some cases are answered as the papers say
 abbrev pub Right : List Case → Type 0
 Right cs = map given cs ≡ map expected cs
 

@@ -9,4 +9,5 @@ pub mod P0133
 pub mod P0134
 pub mod P0138
 pub mod P0164
+pub mod SameDate
 pub mod Answers

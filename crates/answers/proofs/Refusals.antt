@@ -105,14 +105,13 @@ refusals =
     -- 10 fixed value differs, null field filled
     ∷ judging "P0138001" (lines (zhd ∷ "SUB|C|||20231231|M" ∷ [])) (refused 10 2 2)
     ∷ judging "P0138001" (lines (zhd ∷ "SUB|B||X|20231231|M" ∷ [])) (refused 10 2 4)
-    -- 11 key not above the one before, at the key field: periods and dates by value, texts by byte, a shorter text before one that
-    -- continues it
+    -- 11 key out of its order, at the key field: periods and dates by value, texts by byte, a shorter text before one that continues it
     ∷ judging "P0012001" (lines (zhd12 ∷ zpd ∷ hdr ∷ "GSP|9|1|1.0000" ∷ "GSP|10|1|1.0000" ∷ "GSP|10|1|1.0000" ∷ [])) (refused 11 6 2)
     ∷ judging "P0012001" (lines (zhd12 ∷ zpd ∷ hdr ∷ "GSP|10|1|1.0000" ∷ "GSP|9|1|1.0000" ∷ [])) (refused 11 5 2)
     ∷ judging "P0012001" (lines (zhd12 ∷ zpd ∷ hdr ∷ "GS2|9|0|1.0000" ∷ "GS2|10|0|1.0000" ∷ "GS2|2|0|1.0000" ∷ [])) (refused 11 6 2)
     ∷ judging "P0181002" (lines (zhd81 ∷ gs7 ∷ "SUP|ABC" ∷ "BMU|A|20240101||T" ∷ "SUP|ABCD" ∷ "BMU|A|20240101||T" ∷ "SUP|ABC" ∷ [])) (refused 11 7 2)
     ∷ judging "P0181002" (lines (zhd81 ∷ gs7 ∷ "SUP|ABCD" ∷ "BMU|B|20240101||T" ∷ "BMU|a|20240101||T" ∷ "BMU|C|20240101||T" ∷ [])) (refused 11 6 2)
-    ∷ judging "P0164001" (lines (zhd64 ∷ sub64 ∷ "SP7|AB|ABCD|A|20231231|AB|1" ∷ "SP7|AB|ABCD|A|20240101|AB|1" ∷ "SP7|AC|ABCD|A|20240101|AB|1" ∷ [])) (refused 11 5 5)
+    ∷ judging "P0164001" (lines (zhd64 ∷ sub64 ∷ "SP7|AB|ABCD|A|20231231|AB|1" ∷ "SP7|AB|ABCD|A|20240101|AB|1" ∷ "SP7|AC|ABCD|A|20231231|AB|1" ∷ [])) (refused 11 5 5)
     -- 12 record count wrong, 13 checksum wrong
     ∷ judging "P0138001" (lines (zhd ∷ sub ∷ ta2 ∷ "ZPT|3|812996689" ∷ [])) (refused 12 4 2)
     ∷ judging "P0138001" (lines (zhd ∷ sub ∷ ta2 ∷ "ZPT|-4|812996689" ∷ [])) (refused 12 4 2)

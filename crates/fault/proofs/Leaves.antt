@@ -11,7 +11,7 @@ use Rattle.checksum.specs.Checksum.{addRecord}
 use Rattle.number.specs.Numbers.{spelled}
 use Rattle.field.specs.Keys.{keyOrder}
 use Rattle.layout.specs.Layout.{Layout, row, mayFollow, isFooter}
-use Rattle.fault.specs.Record.{kindOf, keyIn, keyType, isBelow, placeFault, shapeFault, keyFault, footerFault, kindFault}
+use Rattle.fault.specs.Record.{kindOf, keyIn, keyType, keysInOrder, placeFault, shapeFault, keyFault, footerFault, kindFault}
 use Rattle.fault.specs.Code.{closeFault, ClosedRight, recordFault, OutcomeRight}
 use Rattle.fault.specs.declared.Check.the-variants.{Fine, Fault}
 use Rattle.fault.specs.declared.State.{State}
@@ -52,13 +52,13 @@ module _ (l : Layout) (k : ℕ) (old key : List ℕ) {at : ℕ} (is : at ≡ row
     key-first h = rw (sym is, ne-eqb _ _ has, eq-eqb _ _ h)
 
     module _ (some : length old ≡ 0 → ⊥) where
-      pub key-above : isBelow (keyOrder (keyType l k) old key) ≡ true → Fine ≡ keyFault l k old key
+      pub key-in-order : keysInOrder (row l k .repeats) (keyOrder (keyType l k) old key) ≡ true → Fine ≡ keyFault l k old key
       unfolding keyFault
-      key-above h = rw (sym is, ne-eqb _ _ has, ne-eqb _ _ some, h)
+      key-in-order h = rw (sym is, ne-eqb _ _ has, ne-eqb _ _ some, h)
 
-      pub key-not-above : isBelow (keyOrder (keyType l k) old key) ≡ false → Fault 11 at ≡ keyFault l k old key
+      pub key-out-of-order : keysInOrder (row l k .repeats) (keyOrder (keyType l k) old key) ≡ false → Fault 11 at ≡ keyFault l k old key
       unfolding keyFault
-      key-not-above h = rw (sym is, ne-eqb _ _ has, ne-eqb _ _ some, h)
+      key-out-of-order h = rw (sym is, ne-eqb _ _ has, ne-eqb _ _ some, h)
 
 -- 12 and 13
 module _ (sep : ℕ) (l : Layout) (n sum k : ℕ) (r : List ℕ) where

@@ -29,15 +29,15 @@ keyIn sep l k r = field sep (row l k .key) r
 abbrev pub keyType : Layout → ℕ → FieldType
 keyType l k = getD (row l k .rules) (row l k .key - 2) noRule .type
 
--- the key before stands below
-abbrev pub isBelow : Order → Bool
-isBelow Below = true
-isBelow Equal = false
-isBelow Above = false
+-- the key before stands below, or is equal where a key may repeat
+abbrev pub keysInOrder : Bool → Order → Bool
+keysInOrder repeats Below = true
+keysInOrder repeats Equal = repeats
+keysInOrder repeats Above = false
 
--- keys ascend strictly: the first of a set has none before it, any other has one that stands below
-abbrev pub ascending : FieldType → List ℕ → List ℕ → Bool
-ascending t old key = eqb (length old) 0 || isBelow (keyOrder t old key)
+-- keys ascend: the first of a set has none before it, any other is in order with the one before
+abbrev pub ascending : Bool → FieldType → List ℕ → List ℕ → Bool
+ascending repeats t old key = eqb (length old) 0 || keysInOrder repeats (keyOrder t old key)
 
 -- 4 the kind is none of the flow's, 5 the grammar has no such kind here
 unfoldable pub placeFault : Layout → ℕ → ℕ → Check
@@ -52,9 +52,11 @@ shapeFault sep rules r =
     must (eqb (length (fields sep r)) (length rules + 1)) (Fault 6 0)
     (fieldsFault rules (drop 1 (fields sep r)) 2)
 
--- 11 the key is not above the one before; a kind without a key has nothing to keep
+-- 11 key out of its order; a kind without a key has nothing to keep
 unfoldable pub keyFault : Layout → ℕ → List ℕ → List ℕ → Check
-keyFault l k old key = must (eqb (row l k .key) 0 || ascending (keyType l k) old key) (Fault 11 (row l k .key)) Fine
+keyFault l k old key =
+    must (eqb (row l k .key) 0 || ascending (row l k .repeats) (keyType l k) old key) (Fault 11 (row l k .key))
+    Fine
 
 -- 12 record count wrong, 13 checksum wrong: of a footer with n records before it that have this sum
 unfoldable pub footerFault : ℕ → Layout → ℕ → ℕ → ℕ → List ℕ → Check

@@ -18,7 +18,7 @@ ghost use Rattle.layout.specs.Layout.{row};
 ghost use Rattle.layout.specs.Numbers.{ruleOf, rulesFrom, layoutOf};
 ghost use Rattle.fault.specs.Fields.{fieldFault};
 ghost use Rattle.number.specs.Numbers.{spelled};
-ghost use Rattle.fault.specs.Record.{kindOf, keyIn, keyType as keyTypeOf, isBelow, placeFault, keyFault, footerFault};
+ghost use Rattle.fault.specs.Record.{kindOf, keyIn, keyType as keyTypeOf, keysInOrder, placeFault, keyFault, footerFault};
 ghost use Rattle.fault.specs.Code.{keyInSlots, ShapeRight, ClosedRight, OutcomeRight};
 ghost use Rattle.fault.specs.declared.Shape.the-variants as shapes;
 
@@ -218,13 +218,13 @@ fn key_type(t: &[u32], k: usize) -> FieldType
     FieldType::Null
 }
 
-// Strictly below.
-fn is_below(o: Order) -> bool
-    ensures { λ r. ⌜ r ≡ isBelow o ⌝ }
+// The key before stands so to a key of kind k that both are in order.
+fn keys_in_order(t: &[u32], k: usize, before: Order) -> bool
+    ensures { λ r. ⌜ ((fixed : List ℕ) → r ≡ keysInOrder (row (layoutOf (now (t .entry)) fixed) k .repeats) before) ⌝ }
 {
-    match o {
+    match before {
         Order::Below => true,
-        Order::Equal => false,
+        Order::Equal => layout::may_repeat(t, k),
         Order::Above => false,
     }
 }
@@ -258,7 +258,7 @@ fn check_shape(t: &[u32], fixed: &[u8], class: &[u8; 256], sep: u8, k: usize, r:
     judge_fields(t, fixed, class, sep, rules.place, rules.count, key, r)
 }
 
-// 11: the key, if the kind has one, stands above the one before, if there is one.
+// 11: the key, if the kind has one, is in order with the one before, if there is one.
 fn check_key(t: &[u32], file: &[u8], slots: &[usize], k: usize, key: &[u8]) -> Check
     requires { ⌜ k ≤ 32 ⌝ }
     ensures { λ c. ⌜ ((fixed : List ℕ) → c ≡ keyFault (layoutOf (now (t .entry)) fixed) k (keyInSlots (layoutOf (now (t .entry)) fixed) (now (file .entry)) (now (slots .entry)) k) (now (key .entry))) ⌝ }
@@ -271,7 +271,7 @@ fn check_key(t: &[u32], file: &[u8], slots: &[usize], k: usize, key: &[u8]) -> C
     if old.len() == 0 {
         return Check::Fine;
     }
-    if is_below(field::key_order(key_type(t, k), old, key)) {
+    if keys_in_order(t, k, field::key_order(key_type(t, k), old, key)) {
         return Check::Fine;
     }
     Check::Fault {

@@ -9,7 +9,7 @@ use Rattle.layout.specs.Layout.{Rule}
 use Rattle.grammar.specs.Sets.{Sets, Nothing, Kind, Then, AnyNumber, OneOrMore, Either}
 use Rattle.flow.specs.Letters.{ZHD, ZPT, ZPD, HDR, GSP, GS2, GS7, SUP, BMU, SB1, CM1, SB2, CM2, SUB, TA2, SP7}
 use Rattle.flow.specs.Letters.{P0012001, P0181002, P0133001, P0134001, P0138001, P0164001, B, G, H, M, X, Z, nought}
-use Rattle.flow.specs.Publication.{Flow, PublishedKind, kind, keyed, keyedWithin}
+use Rattle.flow.specs.Publication.{Flow, PublishedKind, kind, keyed, keyedWithin, repeatingWithin}
 use Rattle.flow.specs.Publication.{text, int, dec, date, datetime, bol, period, null, optional, is}
 
 -- every flow: file type text(8) =flow, from role text(1), from id text(4), to role text(1), to id text(4), creation datetime
@@ -119,7 +119,7 @@ p0164 =
       kinds =
           header P0164001 (is (text 1) G) (is (text 1) Z)
           ∷ kind SUB (is (text 1) B ∷ is (text 1) X ∷ text 4 ∷ date ∷ is (text 1) M ∷ [])
-          ∷ keyedWithin SP7 (text 2 ∷ text 4 ∷ text 1 ∷ date ∷ text 2 ∷ int 10 ∷ []) 5 SUB
+          ∷ repeatingWithin SP7 (text 2 ∷ text 4 ∷ text 1 ∷ date ∷ text 2 ∷ int 10 ∷ []) 5 SUB
           ∷ footer
           ∷ [];
       feed = false;

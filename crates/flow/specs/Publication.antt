@@ -1,7 +1,7 @@
 -- How a flow is published: its name, its grammar as nested sets, the fields and keys of its kinds, and its last line feed;
 -- and the layout that follows from it. Assumes nothing.
 use Prim.Native.Nat.{ℕ, suc, _+_, _^_}
-use mathlib.Core.Bool.{Bool, cond}
+use mathlib.Core.Bool.{Bool, true, false, cond}
 use mathlib.Core.List.{List, [], _∷_, map}
 use Rattle.text.specs.Places.{placeOf}
 use Rattle.field.specs.Judge.{bare, opt, fixed}
@@ -10,11 +10,13 @@ use Rattle.layout.specs.Layout.{Rule, KindRow, Layout}
 use Rattle.grammar.specs.Sets.{Sets}
 use Rattle.grammar.specs.Walk.{At, start, last, may}
 
--- a kind: its name, its fields from 2 on, its key field (0: none), and the kind that heads the set in which the key stands ([]: the file)
+-- a kind: its name, its fields from 2 on, its key field (0: none), is an equal key allowed after one, and the kind that heads the set in
+-- which the key stands ([]: the file)
 pub record PublishedKind : Type 0 where
   pub name : List ℕ
   pub fields : List Rule
   pub key : ℕ
+  pub repeats : Bool
   pub within : List ℕ
 
 -- a flow; its kinds stand in the order of the grammar, and the last is the footer
@@ -36,11 +38,18 @@ setOf g at i (n ∷ ns) = cond (may g at n) (2 ^ i) 0 + setOf g at (suc i) ns
 -- a kind's row: its followers are the grammar's
 abbrev pub rowFor : Sets → List (List ℕ) → PublishedKind → KindRow
 rowFor g ns k =
-    record { name = k .name; next = setOf g (last (k .name)) 0 ns; rules = k .fields; key = k .key; head = placeOf (k .within) 1 ns }
+    record {
+      name = k .name;
+      next = setOf g (last (k .name)) 0 ns;
+      rules = k .fields;
+      key = k .key;
+      repeats = k .repeats;
+      head = placeOf (k .within) 1 ns;
+    }
 
 -- the row of the file's start
 abbrev pub startRow : Sets → List (List ℕ) → KindRow
-startRow g ns = record { name = 0 ∷ 0 ∷ 0 ∷ []; next = setOf g start 0 ns; rules = []; key = 0; head = 0 }
+startRow g ns = record { name = 0 ∷ 0 ∷ 0 ∷ []; next = setOf g start 0 ns; rules = []; key = 0; repeats = false; head = 0 }
 
 -- the layout of a published flow
 abbrev pub layoutFor : Flow → Layout
@@ -82,12 +91,16 @@ optional r = record { type = r .type; mark = opt }
 abbrev pub is : Rule → List ℕ → Rule
 is r value = record { type = r .type; mark = fixed value }
 
--- a kind without a key, one whose key runs through the file, and one whose key starts anew at each record that heads its set
+-- a kind without a key, one whose key rises through the file, one whose key starts anew at each record that heads its set, and one whose
+-- key does so and may be equal to the one before
 abbrev pub kind : List ℕ → List Rule → PublishedKind
-kind n fields = record { name = n; fields = fields; key = 0; within = [] }
+kind n fields = record { name = n; fields = fields; key = 0; repeats = false; within = [] }
 
 abbrev pub keyed : List ℕ → List Rule → ℕ → PublishedKind
-keyed n fields key = record { name = n; fields = fields; key = key; within = [] }
+keyed n fields key = record { name = n; fields = fields; key = key; repeats = false; within = [] }
 
 abbrev pub keyedWithin : List ℕ → List Rule → ℕ → List ℕ → PublishedKind
-keyedWithin n fields key head = record { name = n; fields = fields; key = key; within = head }
+keyedWithin n fields key head = record { name = n; fields = fields; key = key; repeats = false; within = head }
+
+abbrev pub repeatingWithin : List ℕ → List Rule → ℕ → List ℕ → PublishedKind
+repeatingWithin n fields key head = record { name = n; fields = fields; key = key; repeats = true; within = head }

@@ -602,7 +602,7 @@ pub const P0164: [u32; 110] = [
     0b1110, // SP7: then SUB or SP7 or ZPT
     65, // SP7: its rules
     6, // SP7: 6 rules
-    5, // SP7: key field 5
+    0x405, // SP7: key field 5, which may repeat
     2, // SP7: key within SUB
     0x5A5054, // ZPT
     0b0, // ZPT: then nothing

@@ -22,9 +22,9 @@ use Rattle.layout.specs.Layout.{KindRow, Layout, row, kindNamed}
 use Rattle.layout.proofs.Names.{found-row}
 use Rattle.grammar.specs.Table.{rowOf}
 use Rattle.flow.specs.Publication.{Flow, PublishedKind, names, null, rowFor, layoutFor}
-use Rattle.fault.specs.Record.{kindOf, keyIn, keyType, isBelow, ascending, keyFault}
+use Rattle.fault.specs.Record.{kindOf, keyIn, keyType, keysInOrder, ascending, keyFault}
 use Rattle.judge.specs.Record.{keyWith, keyBefore}
-use Rattle.judge.specs.Right.{kindIn, NoneOfKind, publishedAs, publishedFor, Typed, keyTypeFor, Ascends}
+use Rattle.judge.specs.Right.{kindIn, NoneOfKind, publishedAs, publishedFor, Typed, keyTypeFor, KeysInOrder, Ascends}
 use Rattle.fault.specs.declared.Check.the-variants.{Fine}
 use Rattle.judge.proofs.RightEach.{Each, each-first, each-rest}
 use Rattle.judge.proofs.RightFields.{must-fine, fine-must, filled-right}
@@ -56,6 +56,9 @@ module _ (fl : Flow) (r : List ℕ) (known : kindOf bar (layoutFor fl) r ≡ 0 �
 
   key-is : row l k .key ≡ p .key
   key-is = ap (λ (x : KindRow). x .key) row-is
+
+  repeats-is : row l k .repeats ≡ p .repeats
+  repeats-is = ap (λ (x : KindRow). x .repeats) row-is
 
   type-is : keyType l k ≡ keyTypeFor p
   type-is = ap (λ (x : KindRow). getD (x .rules) (x .key - 2) null .type) row-is
@@ -184,10 +187,18 @@ or-either : (a b : Bool) → b ≡ true → (a || b) ≡ true
 or-either true b e = refl
 or-either false b e = e
 
-is-below : (o : Order) → isBelow o ≡ true → o ≡ Below
-is-below Below e = refl
-is-below Equal e = absurd (false≢true e)
-is-below Above e = absurd (false≢true e)
+-- what the test of two keys tells is that they are in order
+in-order : (repeats : Bool) (o : Order) → keysInOrder repeats o ≡ true → KeysInOrder repeats o
+in-order true o e = λ above. false≢true (sym (ap (keysInOrder true) above) ∙ e)
+in-order false Below e = refl
+in-order false Equal e = absurd (false≢true e)
+in-order false Above e = absurd (false≢true e)
+
+order-passes : (repeats : Bool) (o : Order) → KeysInOrder repeats o → keysInOrder repeats o ≡ true
+order-passes true Below h = refl
+order-passes true Equal h = refl
+order-passes true Above h = absurd (h refl)
+order-passes false o h = ap (keysInOrder false) h
 
 module _ (fl : Flow) (r : List ℕ) (known : kindOf bar (layoutFor fl) r ≡ 0 → ⊥) (fits : keyFits (publishedFor fl r) ≡ true) where
   -- a kind does not head its own set
@@ -213,11 +224,12 @@ module _ (fl : Flow) (r : List ℕ) (known : kindOf bar (layoutFor fl) r ≡ 0 �
       let last : old ≡ keyIn bar L K q = before-is fl r known (apart-of hk) b q mid e h x y in
       let some : eqb (length old) 0 ≡ false =
       ap (λ (o : List ℕ). eqb (length o) 0) (last ∙ ap (λ (j : ℕ). field bar j q) (key-is fl r known)) ∙ key-filled P (keyed P fits hk) q typed in
-      let t = must-fine (eqb (row L K .key) 0 || ascending (keyType L K) old (keyIn bar L K r)) 11 (row L K .key) Fine f .0 in
+      let t = must-fine (eqb (row L K .key) 0 || ascending (row L K .repeats) (keyType L K) old (keyIn bar L K r)) 11 (row L K .key) Fine f .0 in
       let u = or-right (eqb (row L K .key) 0) _ (ne-eqb _ _ (λ z. hk (sym (key-is fl r known) ∙ z))) t in
-      let w = is-below _ (or-right (eqb (length old) 0) _ some u) in
-      (λ i. keyOrder (sym (type-is fl r known) i) (field bar (sym (key-is fl r known) i) q) (field bar (sym (key-is fl r known) i) r))
-      ∙ ap (λ (o : List ℕ). keyOrder (keyType L K) o (keyIn bar L K r)) (sym last) ∙ w
+      let w = or-right (eqb (length old) 0) _ some u in
+      in-order (P .repeats) _
+      ((λ i. keysInOrder (sym (repeats-is fl r known) i) (keyOrder (sym (type-is fl r known) i) (field bar (sym (key-is fl r known) i) q) (field bar (sym (key-is fl r known) i) r)))
+      ∙ ap (λ (o : List ℕ). keysInOrder (row L K .repeats) (keyOrder (keyType L K) o (keyIn bar L K r))) (sym last) ∙ w)
 
   -- and the other way round
   module _ (before : List (List ℕ)) (up : (a : List (List ℕ)) (q : List ℕ) (mid : List (List ℕ)) → before ≡ a ++ q ∷ mid → kindIn q ≡ kindIn r
@@ -227,15 +239,15 @@ module _ (fl : Flow) (r : List ℕ) (known : kindOf bar (layoutFor fl) r ≡ 0 �
 
     -- the key of this record stands right after this one
     abbrev After : List ℕ → Bool
-    After old = ascending (keyTypeFor P) old (field bar (P .key) r)
+    After old = ascending (P .repeats) (keyTypeFor P) old (field bar (P .key) r)
 
     after-go : (now : List ℕ) → From fl r known before [] now → (P .key ≡ 0 → ⊥) → After now ≡ true
     after-go now (kept n m e) h = ap After e
     after-go now (anew e) h = ap After e
     after-go now (there a q b e s n m w) h =
         or-either (eqb (length now) 0) _
-        (ap (λ (o : List ℕ). isBelow (keyOrder (keyTypeFor P) o (field bar (P .key) r))) (w ∙ ap (λ (j : ℕ). field bar j q) (key-is fl r known))
-        ∙ ap isBelow (up a q b e s n m h))
+        (ap (λ (o : List ℕ). keysInOrder (P .repeats) (keyOrder (keyTypeFor P) o (field bar (P .key) r))) (w ∙ ap (λ (j : ℕ). field bar j q) (key-is fl r known))
+        ∙ order-passes (P .repeats) _ (up a q b e s n m h))
 
     fault-go : (b : Bool) → eqb (P .key) 0 ≡ b → (b || After (keyBefore bar (layoutFor fl) before (k fl r known))) ≡ true
     unfolding keyBefore
@@ -246,6 +258,6 @@ module _ (fl : Flow) (r : List ℕ) (known : kindOf bar (layoutFor fl) r ≡ 0 �
     unfolding keyFault
     key-fine =
         fine-must _ 11 (row (layoutFor fl) (k fl r known) .key) Fine
-        ((λ i. eqb (key-is fl r known i) 0 || ascending (type-is fl r known i) (keyBefore bar (layoutFor fl) before (k fl r known)) (field bar (key-is fl r known i) r))
+        ((λ i. eqb (key-is fl r known i) 0 || ascending (repeats-is fl r known i) (type-is fl r known i) (keyBefore bar (layoutFor fl) before (k fl r known)) (field bar (key-is fl r known i) r))
         ∙ fault-go (eqb (P .key) 0) refl)
         refl

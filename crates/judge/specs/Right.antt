@@ -2,11 +2,12 @@
 -- record must be as its kind is published. Assumes nothing.
 use Prim.Native.Nat.{ℕ, _+_, _-_, _≤_, _<_}
 use mathlib.Core.Path.{_≡_}
-use mathlib.Core.Bool.{true, cond}
+use mathlib.Core.Bool.{Bool, true, false, cond}
 use mathlib.Core.List.{List, [], _∷_, _++_, map}
 use lib.ListN.{length, getD}
 use Rattle.text.specs.Order.{sameBytes}
-use Rattle.text.specs.declared.Order.the-variants.{Below}
+use Rattle.text.specs.declared.Order.{Order}
+use Rattle.text.specs.declared.Order.the-variants.{Below, Above}
 use Rattle.record.specs.Records.{records, fields, field, bar}
 use Rattle.checksum.specs.Checksum.{checksum as sumOfRecords}
 use Rattle.number.specs.Numbers.{spelled}
@@ -50,9 +51,14 @@ pub record Typed (rules : List Rule) (r : List ℕ) : Type 0 where
 abbrev pub keyTypeFor : PublishedKind → FieldType
 keyTypeFor k = getD (k .fields) (k .key - 2) null .type
 
--- where the kind has a key, that of q stands below that of r
+-- a key that may repeat does not fall; any other rises
+abbrev pub KeysInOrder : Bool → Order → Type 0
+KeysInOrder true order = order ≡ Above → ⊥
+KeysInOrder false order = order ≡ Below
+
+-- where the kind has a key, that of q and that of r are in order
 abbrev pub Ascends : PublishedKind → List ℕ → List ℕ → Type 0
-Ascends k q r = (k .key ≡ 0 → ⊥) → keyOrder (keyTypeFor k) (field bar (k .key) q) (field bar (k .key) r) ≡ Below
+Ascends k q r = (k .key ≡ 0 → ⊥) → KeysInOrder (k .repeats) (keyOrder (keyTypeFor k) (field bar (k .key) q) (field bar (k .key) r))
 
 -- a file of n records is right for a flow
 pub record RightFor (flow : Flow) (f : List ℕ) (n : ℕ) : Type 0 where
@@ -65,7 +71,7 @@ pub record RightFor (flow : Flow) (f : List ℕ) (n : ℕ) : Type 0 where
   -- each record has the fields that are published for its kind
   pub typed : (before : List (List ℕ)) (r : List ℕ) (after : List (List ℕ)) → records f ≡ before ++ r ∷ after
       → Typed (publishedFor flow r .fields) r
-  -- keys ascend strictly: from a record of a kind to the next of it, unless a record between them heads their set
+  -- keys ascend: from a record of a kind to the next of it, unless a record between them heads their set
   pub keys : (before : List (List ℕ)) (q : List ℕ) (between : List (List ℕ)) (r : List ℕ) (after : List (List ℕ))
       → records f ≡ before ++ q ∷ (between ++ r ∷ after) → kindIn q ≡ kindIn r
       → NoneOfKind (kindIn r) between → NoneOfKind (publishedFor flow r .within) between → Ascends (publishedFor flow r) q r

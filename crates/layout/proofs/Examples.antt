@@ -14,7 +14,7 @@ numbers =
     3 ∷ 1
     ∷ 0 ∷ 1 ∷ 0 ∷ 0 ∷ 0 ∷ 0
     ∷ 4276545 ∷ 3 ∷ 20 ∷ 2 ∷ 2 ∷ 0
-    ∷ 4342338 ∷ 0 ∷ 26 ∷ 9 ∷ 2 ∷ 1
+    ∷ 4342338 ∷ 0 ∷ 26 ∷ 9 ∷ 1026 ∷ 1
     ∷ 32 ∷ 14 ∷ 1
     ∷ 16546 ∷ 1 ∷ 0
     ∷ 6 ∷ 0 ∷ 0
@@ -24,12 +24,12 @@ numbers =
 abbrev bytes : List ℕ
 bytes = 120 ∷ 65 ∷ 66 ∷ 67 ∷ 121 ∷ []
 
--- kinds AAA and BBB; the width 20 of the dec is clipped
+-- kinds AAA and BBB, whose key may repeat; the width 20 of the dec is clipped
 abbrev written : Layout
 written =
     record {
       rows =
-          record { name = 0 ∷ 0 ∷ 0 ∷ []; next = 1; rules = []; key = 0; head = 0 }
+          record { name = 0 ∷ 0 ∷ 0 ∷ []; next = 1; rules = []; key = 0; repeats = false; head = 0 }
           ∷ record {
             name = 65 ∷ 65 ∷ 65 ∷ [];
             next = 3;
@@ -38,6 +38,7 @@ written =
                 ∷ record { type = types.Dec 18 2; mark = opt }
                 ∷ [];
             key = 2;
+            repeats = false;
             head = 0;
           }
           ∷ record {
@@ -45,6 +46,7 @@ written =
             next = 0;
             rules = record { type = types.Period; mark = bare } ∷ [];
             key = 2;
+            repeats = true;
             head = 1;
           }
           ∷ [];

@@ -8,7 +8,7 @@ use lib.Dec.{eqb, leb}
 use lib.ListN.{length, drop}
 use borrow.Author.Tests.{le-leb, lt-leb, leb-true, leb-false}
 use Rattle.layout.specs.Layout.{KindRow, row, blank, isFooter}
-use Rattle.layout.specs.Numbers.{each, cell, nameOf, rowOf, rowWord, rowCount, rulesAt, rulesFrom, layoutOf}
+use Rattle.layout.specs.Numbers.{each, cell, nameOf, keyOf, repeatsOf, rowOf, rowWord, rowCount, rulesAt, rulesFrom, layoutOf}
 use Rattle.layout.proofs.Each.{each-length, each-at, each-past, each-drop, each-done}
 
 module _ (t bytes : List ℕ) where
@@ -40,25 +40,30 @@ module _ (t bytes : List ℕ) (k : ℕ) where
   pub row-is : row (layoutOf t bytes) k ≡ cond (leb (rowCount t) k) blank (rowOf t bytes k)
   row-is = by-test (leb (rowCount t) k) refl
 
-  -- a row's number j, where it is 0 for no kind at all
-  number-is : (g : KindRow → ℕ) (j : ℕ) → g blank ≡ 0 → g (rowOf t bytes k) ≡ cell t k j → rowWord t k j ≡ g (row (layoutOf t bytes) k)
-  number-is g j none some = go (leb (rowCount t) k) ∙ sym (ap g row-is)
+  -- what a row's number j says, where 0 says what no kind at all has
+  number-is : {A : Type 0} (says : ℕ → A) (g : KindRow → A) (j : ℕ) → g blank ≡ says 0 → g (rowOf t bytes k) ≡ says (cell t k j)
+      → says (rowWord t k j) ≡ g (row (layoutOf t bytes) k)
+  number-is says g j none some = go (leb (rowCount t) k) ∙ sym (ap g row-is)
     where
-      go : (b : Bool) → cond b 0 (cell t k j) ≡ g (cond b blank (rowOf t bytes k))
+      go : (b : Bool) → says (cond b 0 (cell t k j)) ≡ g (cond b blank (rowOf t bytes k))
       go true = sym none
       go false = sym some
 
   pub next-is : rowWord t k 1 ≡ row (layoutOf t bytes) k .next
   unfolding rowOf
-  next-is = number-is (λ (r : KindRow). r .next) 1 refl refl
+  next-is = number-is (λ n. n) (λ (r : KindRow). r .next) 1 refl refl
 
-  pub key-is : rowWord t k 4 ≡ row (layoutOf t bytes) k .key
+  pub key-is : keyOf (rowWord t k 4) ≡ row (layoutOf t bytes) k .key
   unfolding rowOf
-  key-is = number-is (λ (r : KindRow). r .key) 4 refl refl
+  key-is = number-is keyOf (λ (r : KindRow). r .key) 4 refl refl
+
+  pub repeats-is : repeatsOf (rowWord t k 4) ≡ row (layoutOf t bytes) k .repeats
+  unfolding rowOf
+  repeats-is = number-is repeatsOf (λ (r : KindRow). r .repeats) 4 refl refl
 
   pub head-is : rowWord t k 5 ≡ row (layoutOf t bytes) k .head
   unfolding rowOf
-  head-is = number-is (λ (r : KindRow). r .head) 5 refl refl
+  head-is = number-is (λ n. n) (λ (r : KindRow). r .head) 5 refl refl
 
   pub name-is : k < rowCount t → nameOf (rowWord t k 0) ≡ row (layoutOf t bytes) k .name
   unfolding rowOf

@@ -1,6 +1,6 @@
 -- What a flow asks of its records: kinds, followers, fields, keys, and the last line feed. No flow is named here. Assumes nothing.
 use Prim.Native.Nat.{ℕ, _-_, _^_, _/_, _%_}
-use mathlib.Core.Bool.{Bool, _&&_}
+use mathlib.Core.Bool.{Bool, false, _&&_}
 use mathlib.Core.List.{List, [], map}
 use lib.Dec.{eqb, leb}
 use lib.ListN.{length, getD, drop}
@@ -20,12 +20,13 @@ abbrev pub noRule : Rule
 noRule = record { type = types.Null; mark = bare }
 
 -- a kind: its three bytes, the kinds that may follow it (as a set), the rules of its fields from 2 on,
--- its key field (0: no key), and the kind that heads the set in which the key stands (0: the file)
+-- its key field (0: no key), is the key before allowed again, and the kind that heads the set in which the key stands (0: the file)
 pub record KindRow : Type 0 where
   pub name : List ℕ
   pub next : ℕ
   pub rules : List Rule
   pub key : ℕ
+  pub repeats : Bool
   pub head : ℕ
 
 -- row 0 is the file's start, kinds count from 1, and the last kind is the footer; is the footer's line feed needed?
@@ -35,7 +36,7 @@ pub record Layout : Type 0 where
 
 -- no kind at all
 abbrev pub blank : KindRow
-blank = record { name = []; next = 0; rules = []; key = 0; head = 0 }
+blank = record { name = []; next = 0; rules = []; key = 0; repeats = false; head = 0 }
 
 -- row k, or no kind at all
 abbrev pub row : Layout → ℕ → KindRow

@@ -4,7 +4,7 @@
 -- and what stands past the end reads as 0. Assumes nothing.
 use Prim.Native.Nat.{ℕ, zero, suc, _+_, _-_, _*_, _/_, _%_, _≤_, min}
 use mathlib.Core.Path.{_≡_}
-use mathlib.Core.Bool.{cond}
+use mathlib.Core.Bool.{Bool, cond}
 use mathlib.Core.List.{List, [], _∷_}
 use lib.Dec.{eqb, leb}
 use lib.ListN.{getD, length, take, drop}
@@ -58,6 +58,13 @@ cell t k j = word t (k * 6 + 2 + j)
 abbrev pub nameOf : ℕ → List ℕ
 nameOf w = w / 65536 % 256 ∷ w / 256 % 256 ∷ w % 256 ∷ []
 
+-- the key field is below 1024; a 1 above it lets the key repeat
+abbrev pub keyOf : ℕ → ℕ
+keyOf w = w % 1024
+
+abbrev pub repeatsOf : ℕ → Bool
+repeatsOf w = eqb (w / 1024) 1
+
 -- row k
 unfoldable pub rowOf : List ℕ → List ℕ → ℕ → KindRow
 rowOf t bytes k =
@@ -65,7 +72,8 @@ rowOf t bytes k =
       name = nameOf (cell t k 0);
       next = cell t k 1;
       rules = rulesAt t bytes (cell t k 2) (cell t k 3);
-      key = cell t k 4;
+      key = keyOf (cell t k 4);
+      repeats = repeatsOf (cell t k 4);
       head = cell t k 5;
     }
 

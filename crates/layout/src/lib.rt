@@ -94,9 +94,16 @@ pub fn may_follow(t: &[u32], last: usize, k: usize) -> bool
 
 // The key field of kind k, or 0.
 pub fn key_field(t: &[u32], k: usize) -> usize
-    ensures { λ r. ⌜ ((bytes : List ℕ) → r ≡ row (layoutOf (now (t .entry)) bytes) k .key) × (r < 2 ^ 32) ⌝ }
+    ensures { λ r. ⌜ ((bytes : List ℕ) → r ≡ row (layoutOf (now (t .entry)) bytes) k .key) × (r < 1024) ⌝ }
 {
-    row_word(t, k, 4)
+    row_word(t, k, 4) % 1024
+}
+
+// A key of kind k may be equal to the one before.
+pub fn may_repeat(t: &[u32], k: usize) -> bool
+    ensures { λ r. ⌜ ((bytes : List ℕ) → r ≡ row (layoutOf (now (t .entry)) bytes) k .repeats) ⌝ }
+{
+    row_word(t, k, 4) / 1024 == 1
 }
 
 // The kind that heads the set in which the key of kind k stands, or 0 for the file.

@@ -86,10 +86,12 @@ fn last_of_kind<'a>(t: &[u32], sep: u8, file: &'a [u8], kind: usize, n: usize) -
     text::part(text::part(file, 0, to), from, to)
 }
 
-// The key that the one of the refused record should be above.
+// The key before that of the refused record, and whether it may come again.
 fn say_key_before(t: &[u32], sep: u8, file: &[u8], kind: usize, r: Refusal) -> bool {
     let last = last_of_kind(t, sep, file, kind, r.record);
-    print(b"; the key before is ") && say::quoted(words::part(sep, last, r.field))
+    print(b"; the key before is ")
+        && say::quoted(words::part(sep, last, r.field))
+        && (!layout::may_repeat(t, kind) || print(b", which may come again"))
 }
 
 // Where line n starts; the end of the file where there is none.

@@ -28,7 +28,9 @@ fn early_rule(n: usize) -> bool {
 fn late_rule(n: usize) -> bool {
     match n {
         10 => print(b"a fixed value is given as it is, and a null field is empty"),
-        11 => print(b"a key is above the one before it in its set"),
+        11 => print(
+            b"no key out of its order: in its set each is above the one before it, or the same where it may repeat, as the date of SP7 in P0164001 may",
+        ),
         12 => print(b"the footer counts all records from the first to itself, both included"),
         13 => print(
             b"the footer's checksum is the exclusive-or of the 4-byte pieces of all records before it, first byte highest, the last piece of a record filled with zero bytes",

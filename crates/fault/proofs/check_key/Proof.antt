@@ -1,4 +1,4 @@
--- `check_key` is right: a kind without a key passes, the first key of a set passes, and any other where the one before stands below it.
+-- `check_key` is right: a kind without a key passes, the first key of a set passes, and any other where it is in order with the one before.
 use borrow.Author.Needs.{needs}
 use Prim.Native.Nat.{ℕ}
 use mathlib.Core.Path.{_≡_, sym, _∙_, ap}
@@ -6,10 +6,11 @@ use mathlib.Core.List.{List}
 use lib.ListN.{length}
 use denote.Ref.{now}
 use Rattle.field.specs.Keys.{keyOrder}
+use Rattle.layout.specs.Layout.{row}
 use Rattle.layout.specs.Numbers.{layoutOf}
-use Rattle.fault.specs.Record.{keyType, isBelow}
+use Rattle.fault.specs.Record.{keyType, keysInOrder}
 use Rattle.fault.specs.Code.{keyInSlots}
-use Rattle.fault.proofs.Leaves.{no-key, key-first, key-above, key-not-above}
+use Rattle.fault.proofs.Leaves.{no-key, key-first, key-in-order, key-out-of-order}
 use Rattle.fault.proofs.check_key.Statement.{statement}
 use Rattle.fault.proofs.check_key.Tie as tie
 
@@ -40,33 +41,35 @@ key-type-requires c κs = search needs
 key-order-requires : tie.Need-key-order-requires
 key-order-requires c κs = search needs
 
-is-below-requires : tie.Need-is-below-requires
-is-below-requires c κs = search needs
+keys-in-order-requires : tie.Need-keys-in-order-requires
+keys-in-order-requires c κs = search needs
 
 -- what the last test says
-below : (c : tie.After-is-below) (fixed : List ℕ) →
+in-order : (c : tie.After-keys-in-order) (fixed : List ℕ) →
     let a = c .before .before .before .before .before .before .before .before .before .before .before .args in
     let l = layoutOf (now (a .t)) fixed in
-    c .is-below .result ≡ isBelow (keyOrder (keyType l (a .k)) (keyInSlots l (now (a .file)) (now (a .slots)) (a .k)) (now (a .key)))
-below c fixed =
-    let key = now (c .before .before .before .before .before .before .before .before .before .before .before .args .key) in
-    c .is-below .ensures ∙ ap isBelow (c .before .key-order .ensures ∙ (λ i. keyOrder (c .before .before .key-type .ensures fixed i) (c .before .before .before .before .key-before .ensures fixed i) key))
+    c .keys-in-order .result ≡ keysInOrder (row l (a .k) .repeats) (keyOrder (keyType l (a .k)) (keyInSlots l (now (a .file)) (now (a .slots)) (a .k)) (now (a .key)))
+in-order c fixed =
+    let a = c .before .before .before .before .before .before .before .before .before .before .before .args in
+    c .keys-in-order .ensures fixed
+    ∙ ap (keysInOrder (row (layoutOf (now (a .t)) fixed) (a .k) .repeats))
+    (c .before .key-order .ensures ∙ (λ i. keyOrder (c .before .before .key-type .ensures fixed i) (c .before .before .before .before .key-before .ensures fixed i) (now (a .key))))
 
 returns-3 : tie.Need-returns-3
 returns-3 c =
     let a = c .before .before .before .before .before .before .before .before .before .before .before .before .args in
     λ fixed.
     let l = layoutOf (now (a .t)) fixed in
-    key-above l (a .k) (keyInSlots l (now (a .file)) (now (a .slots)) (a .k)) (now (a .key)) (c .before .before .before .before .before .before .before .key-field .ensures .0 fixed) (c .before .before .before .before .before .before .if1 .left)
-    (λ e. c .before .before .before .before .if2 .left (ap length (c .before .before .before .before .before .key-before .ensures fixed) ∙ e)) (sym (below (c .before) fixed) ∙ c .if3 .taken)
+    key-in-order l (a .k) (keyInSlots l (now (a .file)) (now (a .slots)) (a .k)) (now (a .key)) (c .before .before .before .before .before .before .before .key-field .ensures .0 fixed) (c .before .before .before .before .before .before .if1 .left)
+    (λ e. c .before .before .before .before .if2 .left (ap length (c .before .before .before .before .before .key-before .ensures fixed) ∙ e)) (sym (in-order (c .before) fixed) ∙ c .if3 .taken)
 
 returns-4 : tie.Need-returns-4
 returns-4 c =
     let a = c .before .before .before .before .before .before .before .before .before .before .before .before .args in
     λ fixed.
     let l = layoutOf (now (a .t)) fixed in
-    key-not-above l (a .k) (keyInSlots l (now (a .file)) (now (a .slots)) (a .k)) (now (a .key)) (c .before .before .before .before .before .before .before .key-field .ensures .0 fixed) (c .before .before .before .before .before .before .if1 .left)
-    (λ e. c .before .before .before .before .if2 .left (ap length (c .before .before .before .before .before .key-before .ensures fixed) ∙ e)) (sym (below (c .before) fixed) ∙ c .if3 .left)
+    key-out-of-order l (a .k) (keyInSlots l (now (a .file)) (now (a .slots)) (a .k)) (now (a .key)) (c .before .before .before .before .before .before .before .key-field .ensures .0 fixed) (c .before .before .before .before .before .before .if1 .left)
+    (λ e. c .before .before .before .before .if2 .left (ap length (c .before .before .before .before .before .key-before .ensures fixed) ∙ e)) (sym (in-order (c .before) fixed) ∙ c .if3 .left)
 
 pub check-key-spec : {M : Type 1} → statement M
 check-key-spec =
@@ -78,6 +81,6 @@ check-key-spec =
     returns-2
     key-type-requires
     key-order-requires
-    is-below-requires
+    keys-in-order-requires
     returns-3
     returns-4)
