@@ -218,7 +218,7 @@ fn key_type(t: &[u32], k: usize) -> FieldType
     FieldType::Null
 }
 
-// The key before stands so to a key of kind k that both are in order.
+// Two keys of kind k are in order, by where the one before stands.
 fn keys_in_order(t: &[u32], k: usize, before: Order) -> bool
     ensures { λ r. ⌜ ((fixed : List ℕ) → r ≡ keysInOrder (row (layoutOf (now (t .entry)) fixed) k .repeats) before) ⌝ }
 {

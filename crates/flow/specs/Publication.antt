@@ -10,8 +10,8 @@ use Rattle.layout.specs.Layout.{Rule, KindRow, Layout}
 use Rattle.grammar.specs.Sets.{Sets}
 use Rattle.grammar.specs.Walk.{At, start, last, may}
 
--- a kind: its name, its fields from 2 on, its key field (0: none), is an equal key allowed after one, and the kind that heads the set in
--- which the key stands ([]: the file)
+-- a kind: its name, its fields from 2 on, its key field (0: none), may a key be equal to the one before, and the kind that heads the
+-- set in which the key stands ([]: the file)
 pub record PublishedKind : Type 0 where
   pub name : List ℕ
   pub fields : List Rule
@@ -91,7 +91,7 @@ optional r = record { type = r .type; mark = opt }
 abbrev pub is : Rule → List ℕ → Rule
 is r value = record { type = r .type; mark = fixed value }
 
--- a kind without a key, one whose key rises through the file, one whose key starts anew at each record that heads its set, and one whose
+-- a kind without a key, one whose key runs through the file, one whose key starts anew at each record that heads its set, and one whose
 -- key does so and may be equal to the one before
 abbrev pub kind : List ℕ → List Rule → PublishedKind
 kind n fields = record { name = n; fields = fields; key = 0; repeats = false; within = [] }

@@ -187,7 +187,7 @@ or-either : (a b : Bool) → b ≡ true → (a || b) ≡ true
 or-either true b e = refl
 or-either false b e = e
 
--- what the test of two keys tells is that they are in order
+-- two keys that pass the test are in order, and two in order pass it
 in-order : (repeats : Bool) (o : Order) → keysInOrder repeats o ≡ true → KeysInOrder repeats o
 in-order true o e = λ above. false≢true (sym (ap (keysInOrder true) above) ∙ e)
 in-order false Below e = refl

@@ -58,7 +58,7 @@ cell t k j = word t (k * 6 + 2 + j)
 abbrev pub nameOf : ℕ → List ℕ
 nameOf w = w / 65536 % 256 ∷ w / 256 % 256 ∷ w % 256 ∷ []
 
--- the key field is below 1024; a 1 above it lets the key repeat
+-- the key field stands below 1024; a 1 above it lets the key repeat
 abbrev pub keyOf : ℕ → ℕ
 keyOf w = w % 1024
 

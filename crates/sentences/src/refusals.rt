@@ -29,7 +29,7 @@ fn late_rule(n: usize) -> bool {
     match n {
         10 => print(b"a fixed value is given as it is, and a null field is empty"),
         11 => print(
-            b"no key out of its order: in its set each is above the one before it, or the same where it may repeat, as the date of SP7 in P0164001 may",
+            b"no key out of its order: in its set each is above the one before it, but SP7 of P0164001 may have the same date again",
         ),
         12 => print(b"the footer counts all records from the first to itself, both included"),
         13 => print(
