@@ -10,7 +10,7 @@ use Rattle.field.specs.declared.FieldAnswer.the-variants.{Refused, Empty
 
 -- the answer that says this
 abbrev said : Reply → FieldAnswer
-said (refused n r k) = Refused n
+said (refused n r k place) = Refused n
 said empty = Empty
 said (number z) = Number z
 said (truth b) = Truth b

@@ -56,17 +56,17 @@ fieldAnswer t m s =
 unfoldable pub judgedAs : FieldType → Marked → List ℕ → FieldAnswer
 judgedAs t m s = must (widthRight t) (Refused 18) (fieldAnswer t m s)
 
--- document 01's answers: a refusal's number, record and field, or a value, or that the field is empty
+-- the papers' answers: a refusal's number, record, field and place, or a value, or that the field is empty
 pub data Reply : Type 0 where
-  refused : ℕ → ℕ → ℕ → Reply
+  refused : ℕ → ℕ → ℕ → ℕ → Reply
   empty : Reply
   number : ℤ → Reply
   truth : Bool → Reply
   text : List ℕ → Reply
 
--- what each case of the code's answer says in document 01's terms; all refusals are at record 0, field 0
+-- what each case of the code's answer says in the papers' terms; all refusals are at record 0, field 0, place 0
 abbrev pub paper : List ℕ → FieldAnswer → Reply
-paper s (Refused n) = refused n 0 0
+paper s (Refused n) = refused n 0 0 0
 paper s Empty = empty
 paper s (Number z) = number z
 paper s (Truth b) = truth b

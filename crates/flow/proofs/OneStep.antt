@@ -46,15 +46,15 @@ module _ (f : Flow) (ks : List (List ℕ)) (old : List ℕ) where
 -- two answers in document 01's terms that are right are the same, and so are the lent bytes after them
 pub one-reply : (name bytes old : List ℕ) (a b : Reply) (new other : List ℕ)
     → ReplyRight name bytes a old new → ReplyRight name bytes b old other → (a ≡ b) × (new ≡ other)
-one-reply name bytes old (refused m r f) (refused n q g) new other s t = (s .1 ∙ sym (t .1), s .2 ∙ sym (t .2))
-one-reply name bytes old (refused m r f) (stopped q) new other s t = absurd (false≢true (sym (s .0) ∙ t .0))
-one-reply name bytes old (refused m r f) (through n b) new other s t = absurd (false≢true (sym (s .0) ∙ t .0))
-one-reply name bytes old (stopped p) (refused n q g) new other s t = absurd (false≢true (sym (t .0) ∙ s .0))
+one-reply name bytes old (refused m r f p) (refused n q g o) new other s t = (s .1 ∙ sym (t .1), s .2 ∙ sym (t .2))
+one-reply name bytes old (refused m r f p) (stopped q) new other s t = absurd (false≢true (sym (s .0) ∙ t .0))
+one-reply name bytes old (refused m r f p) (through n b) new other s t = absurd (false≢true (sym (s .0) ∙ t .0))
+one-reply name bytes old (stopped p) (refused n q g o) new other s t = absurd (false≢true (sym (t .0) ∙ s .0))
 one-reply name bytes old (stopped p) (stopped q) new other s t =
     one-stop (flowNamed name) (kindsIn bytes) old p q new other (s .1) (t .1)
 one-reply name bytes old (stopped p) (through n b) new other s t =
     absurd (stop-or-go (flowNamed name) (kindsIn bytes) old p n b new other (s .1) (t .1))
-one-reply name bytes old (through m a) (refused n q g) new other s t = absurd (false≢true (sym (t .0) ∙ s .0))
+one-reply name bytes old (through m a) (refused n q g o) new other s t = absurd (false≢true (sym (t .0) ∙ s .0))
 one-reply name bytes old (through m a) (stopped q) new other s t =
     absurd (stop-or-go (flowNamed name) (kindsIn bytes) old q m a other new (t .1) (s .1))
 one-reply name bytes old (through m a) (through n b) new other s t =
@@ -62,7 +62,7 @@ one-reply name bytes old (through m a) (through n b) new other s t =
 
 -- the answer that says this
 abbrev said : Reply → StepAnswer
-said (refused n r f) = Refused n
+said (refused n r f place) = Refused n
 said (stopped p) = Stopped p
 said (through m a) = Through m a
 

@@ -47,22 +47,22 @@ pub record StoppedAt (f : Flow) (ks : List (List ℕ)) (place : ℕ) (old new : 
   pub right : StoppedRight (f .grammar) ks before
   pub kept : new ≡ old
 
--- document 01's answers: a refusal's number, record and field; the place where the list stopped; or how many kinds may follow, and
+-- the papers' answers: a refusal's number, record, field and byte place; the place where the list stopped; or how many kinds may follow, and
 -- whether the list is complete
 pub data Reply : Type 0 where
-  refused : ℕ → ℕ → ℕ → Reply
+  refused : ℕ → ℕ → ℕ → ℕ → Reply
   stopped : ℕ → Reply
   through : ℕ → Bool → Reply
 
--- what each case of the code's answer says in document 01's terms; a refusal is at record 0, field 0
+-- what each case of the code's answer says in the papers' terms; a refusal is at record 0, field 0, byte 0
 abbrev pub paper : StepAnswer → Reply
-paper (Refused number) = refused number 0 0
+paper (Refused number) = refused number 0 0 0
 paper (Stopped place) = stopped place
 paper (Through count complete) = through count complete
 
--- an answer is right, and so are the bytes that were lent: 1 at record 0, field 0 where we hold no such flow
+-- an answer is right, and so are the bytes that were lent: 1 at record 0, field 0, byte 0 where we hold no such flow
 abbrev pub ReplyRight : List ℕ → List ℕ → Reply → List ℕ → List ℕ → Type 0
-ReplyRight name bytes (refused number r f) old new = (held name ≡ false) × (refused number r f ≡ refused 1 0 0) × (new ≡ old)
+ReplyRight name bytes (refused number r f at) old new = (held name ≡ false) × (refused number r f at ≡ refused 1 0 0 0) × (new ≡ old)
 ReplyRight name bytes (stopped place) old new = (held name ≡ true) × StoppedAt (flowNamed name) (kindsIn bytes) place old new
 ReplyRight name bytes (through count complete) old new =
     (held name ≡ true) × WentThrough (flowNamed name) (kindsIn bytes) count complete old new

@@ -12,8 +12,10 @@ use Rattle.text.specs.Characters.{all}
 use Rattle.text.specs.Rules.{must}
 use Rattle.text.proofs.Places.{all-at}
 use Rattle.text.proofs.Tests.{is-true}
+use Rattle.text.proofs.Inverse.{same-said}
 use Rattle.record.specs.Records.{records, fields, field, bar}
 use Rattle.checksum.specs.Checksum.{checksum}
+use Rattle.place.specs.Places.{refusal}
 use Rattle.number.specs.Numbers.{spelled}
 use Rattle.number.proofs.Digits.{and-left, and-right}
 use Rattle.layout.specs.Layout.{Rule, Layout, row, mayFollow, isFooter}
@@ -24,11 +26,13 @@ use Rattle.flow.proofs.Agree.{tables-agree, some-kind}
 use Rattle.fault.specs.Fields.{fieldsFault}
 use Rattle.fault.specs.Record.{kindOf, footerFault}
 use Rattle.judge.specs.Record.{sumOf}
-use Rattle.judge.specs.File.{endsInFeed, judgedBy, verdict, judged, accepted, paper}
+use Rattle.judge.specs.File.{endsInFeed, judgedBy, verdict, withPlace, Reply, accepted, refused, paper, judged}
 use Rattle.judge.specs.Right.{kindIn, publishedAs, publishedFor, Typed, RightFor, Right}
 use Rattle.fault.specs.declared.Check.the-variants.{Fine, Fault}
 use Rattle.judge.specs.declared.Verdict.{Verdict}
 use Rattle.judge.specs.declared.Verdict.the-variants.{Accepted, Refused}
+use Rattle.judge.specs.declared.Judged.{Judged}
+use Rattle.judge.specs.declared.Judged.the-variants as answers
 use Rattle.judge.proofs.RightEach.{Each}
 use Rattle.judge.proofs.RightFields.{FineRecord, fine-each, is-typed, typed-is}
 use Rattle.judge.proofs.Passes.{Passes, passes, passed, must-accepted, bars, all-fine, last-spells}
@@ -155,12 +159,27 @@ flow-fits : (n : ℕ) → T (flowFits (flowAt n))
 unfolding flowFits
 flow-fits n = all-at flowFits p0012 flows (tt {0}) (tt {0}) (n - 1)
 
--- two answers that say the same in document 01's terms are the same answer, so only one meets the promise of judge
-pub one-reply : (v w : Verdict) → paper v ≡ paper w → v ≡ w
-one-reply (Accepted n) (Accepted m) e = let z : n ≡ m = cc in ap Accepted z
-one-reply (Accepted n) (Refused x r f) e = let z : _≡_ {A = ℕ} 0 1 = cc in absurd (omega arith)
-one-reply (Refused x r f) (Accepted m) e = let z : _≡_ {A = ℕ} 0 1 = cc in absurd (omega arith)
-one-reply (Refused x r f) (Refused y s g) e = cc
+-- the answer that says this
+abbrev said : Reply → Judged
+said (accepted n) = answers.Accepted n
+said (refused number r k place) = answers.Refused (refusal number r k place)
+
+said-paper : (v : Judged) → said (paper v) ≡ v
+said-paper (answers.Accepted n) = refl
+said-paper (answers.Refused r) = refl
+
+-- two answers that say the same in the papers' terms are the same answer, so only one meets the promise of judge
+pub one-reply : (v w : Judged) → paper v ≡ paper w → v ≡ w
+one-reply v w e = same-said paper said said-paper v w e
+
+-- the verdict before a refusal's place
+abbrev unplaced : Reply → Verdict
+unplaced (accepted n) = Accepted n
+unplaced (refused number r k place) = Refused number r k
+
+pub unplaced-paper : (sep : ℕ) (s : List ℕ) (v : Verdict) → unplaced (paper (withPlace sep s v)) ≡ v
+unplaced-paper sep s (Accepted n) = refl
+unplaced-paper sep s (Refused number r k) = refl
 
 module _ (name f : List ℕ) (n : ℕ) where
   -- the flow of this name
@@ -176,7 +195,7 @@ module _ (name f : List ℕ) (n : ℕ) where
   to-right : judged name f ≡ accepted n → Right name f n
   unfolding judged verdict
   to-right e =
-      let v = one-reply (verdict name f) (Accepted n) e in
+      let v : verdict name f ≡ Accepted n = sym (unplaced-paper bar f (verdict name f)) ∙ ap unplaced e in
       let p = must-accepted (held name) 1 0 0 n (judgedBy (layoutFor (flowNamed name)) f) v in
       record { isHeld = p .0; file = named .0 (p .1) }
 

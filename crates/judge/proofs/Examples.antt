@@ -6,7 +6,7 @@ use lib.IntN.{pos}
 use mathlib.Core.List.{List, [], _∷_, _++_, map}
 use lib.ListN.{length}
 use Rattle.text.specs.Characters.{bytes, isDigit, isText}
-use Rattle.record.specs.Records.{joined, onto, records, fields, field, turned}
+use Rattle.record.specs.Records.{joined, onto, records, fields, field, extent, turned}
 use Rattle.checksum.specs.Checksum.{words, addRecord, checksum}
 use Rattle.number.specs.Numbers.{minus, unsigned, plain, intForm, intValue, decForm, decValue, spelled}
 use Rattle.number.specs.Calendar.{leap, daysIn, isDay, isDate, isTime}
@@ -14,6 +14,7 @@ use Rattle.field.specs.Types.{textForm, periodRange, form, range, valueOf, widt
 use Rattle.field.specs.Judge.{bare, filled, fieldAnswer, judgedAs, fieldJudged, Reply as FieldReply, refused as refusedAs, number}
 use Rattle.field.specs.declared.FieldType.{FieldType}
 use Rattle.field.specs.declared.FieldType.the-variants.{Text, Int, Dec, Date}
+use Rattle.place.specs.Places.{fieldStart, placeAt}
 use Rattle.layout.specs.Layout.{among, find}
 use Rattle.flow.specs.Letters.{P0012001, P0133001, P0138001}
 use Rattle.flow.specs.Flows.{flowNumber}
@@ -62,36 +63,36 @@ table =
     -- its last line feed cut off
     ∷ file P0138001 (lines (head ∷ "SUB|B|||20231231|M" ∷ "TA2|1.0250" ∷ []) ++ bytes "ZPT|4|812996689") (accepted 4)
     -- checksum 812996688
-    ∷ file P0138001 (lines (head ∷ "SUB|B|||20231231|M" ∷ "TA2|1.0250" ∷ "ZPT|4|812996688" ∷ [])) (refused 13 4 3)
+    ∷ file P0138001 (lines (head ∷ "SUB|B|||20231231|M" ∷ "TA2|1.0250" ∷ "ZPT|4|812996688" ∷ [])) (refused 13 4 3 78)
     -- count 5
-    ∷ file P0138001 (lines (head ∷ "SUB|B|||20231231|M" ∷ "TA2|1.0250" ∷ "ZPT|5|812996689" ∷ [])) (refused 12 4 2)
+    ∷ file P0138001 (lines (head ∷ "SUB|B|||20231231|M" ∷ "TA2|1.0250" ∷ "ZPT|5|812996689" ∷ [])) (refused 12 4 2 76)
     -- TA2 line removed
-    ∷ file P0138001 (lines (head ∷ "SUB|B|||20231231|M" ∷ "ZPT|4|812996689" ∷ [])) (refused 5 3 1)
+    ∷ file P0138001 (lines (head ∷ "SUB|B|||20231231|M" ∷ "ZPT|4|812996689" ∷ [])) (refused 5 3 1 61)
     -- NULL in SUB field 3
-    ∷ file P0138001 (lines (head ∷ "SUB|B|NULL||20231231|M" ∷ "TA2|1.0250" ∷ "ZPT|4|812996689" ∷ [])) (refused 10 2 3)
+    ∷ file P0138001 (lines (head ∷ "SUB|B|NULL||20231231|M" ∷ "TA2|1.0250" ∷ "ZPT|4|812996689" ∷ [])) (refused 10 2 3 48)
     -- int(2)
     ∷ aField (Int 2) "99" (number (pos 99))
-    ∷ aField (Int 2) "100" (refusedAs 9 0 0)
-    ∷ aField (Int 2) "07" (refusedAs 8 0 0)
-    ∷ aField (Int 2) "-0" (refusedAs 8 0 0)
+    ∷ aField (Int 2) "100" (refusedAs 9 0 0 0)
+    ∷ aField (Int 2) "07" (refusedAs 8 0 0 0)
+    ∷ aField (Int 2) "-0" (refusedAs 8 0 0 0)
     -- dec(4,1)
     ∷ aField (Dec 4 1) "999.9" (number (pos 9999))
-    ∷ aField (Dec 4 1) "1000.0" (refusedAs 9 0 0)
-    ∷ aField (Dec 4 1) "5" (refusedAs 8 0 0)
-    ∷ aField (Dec 4 1) "5.00" (refusedAs 8 0 0)
+    ∷ aField (Dec 4 1) "1000.0" (refusedAs 9 0 0 0)
+    ∷ aField (Dec 4 1) "5" (refusedAs 8 0 0 0)
+    ∷ aField (Dec 4 1) "5.00" (refusedAs 8 0 0 0)
     -- text(2)
-    ∷ aField (Text 2) "A " (refusedAs 8 0 0)
+    ∷ aField (Text 2) "A " (refusedAs 8 0 0 0)
     -- date
     ∷ aField Date "20000229" (number (pos 20000229))
-    ∷ aField Date "19000229" (refusedAs 9 0 0)
-    ∷ aField Date "2024229" (refusedAs 8 0 0)
+    ∷ aField Date "19000229" (refusedAs 9 0 0 0)
+    ∷ aField Date "2024229" (refusedAs 8 0 0 0)
     -- P0133: ZHD then ZPT alone
     ∷ file P0133001 (lines ("ZHD|P0133001|Z|SVAA|Z|POOL|20240105120000" ∷ "ZPT|2|89220381" ∷ [])) (accepted 2)
     -- P0012: GSP followed by GS2
-    ∷ file P0012001 (lines ("ZHD|P0012001|G|SVAA|Z|POOL|20240105120000" ∷ "ZPD|20240105|||1|SF" ∷ "HDR|1|_A|1" ∷ "GSP|1|1|1.0000" ∷ "GS2|2|0|1.0000" ∷ [])) (refused 5 5 1)
+    ∷ file P0012001 (lines ("ZHD|P0012001|G|SVAA|Z|POOL|20240105120000" ∷ "ZPD|20240105|||1|SF" ∷ "HDR|1|_A|1" ∷ "GSP|1|1|1.0000" ∷ "GS2|2|0|1.0000" ∷ [])) (refused 5 5 1 88)
     ∷ []
 
 -- each is judged as document 01 says
 pub p-cases : given table ≡ expected table
-unfolding given expected table joined onto records fields field turned words addRecord checksum minus unsigned plain intForm intValue decForm decValue spelled leap daysIn isDay isDate isTime textForm periodRange form range valueOf widthRight filled fieldAnswer judgedAs fieldJudged among find flowNumber isDigit isText fieldFault fieldsFault lastKind keyWith keyBefore placeFault shapeFault keyFault footerFault kindFault fault checkedFrom ended judgedBy verdict judged
+unfolding given expected table joined onto records fields field extent turned words addRecord checksum minus unsigned plain intForm intValue decForm decValue spelled leap daysIn isDay isDate isTime textForm periodRange form range valueOf widthRight filled fieldAnswer judgedAs fieldJudged among find flowNumber isDigit isText fieldFault fieldsFault lastKind keyWith keyBefore placeFault shapeFault keyFault footerFault kindFault fault checkedFrom ended judgedBy verdict fieldStart placeAt judged
 p-cases = refl

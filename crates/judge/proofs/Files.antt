@@ -144,32 +144,6 @@ module _ (sep : ℕ) (l : Layout) (f : List ℕ) (st : State) (slots : List ℕ)
           all = append-snoc (p .before) r (records (drop at′ f)) ∙ ap (λ (x : List (List ℕ)). p .before ++ x) (sym e) ∙ p .all;
         }
 
--- a part of a part
-drop-take : (a n : ℕ) (s : List ℕ) → drop a (take n s) ≡ take (n - a) (drop a s)
-drop-take zero n s =
-    let q : n - 0 ≡ n = omega arith in
-    rw q
-drop-take (suc a) zero s =
-    let q : 0 - suc a ≡ 0 = omega arith in
-    rw q
-drop-take (suc a) (suc n) [] = sym (take-nil (suc n - suc a))
-drop-take (suc a) (suc n) (x ∷ s) =
-    let q : suc n - suc a ≡ n - a = omega arith in
-    rw q (drop-take a n s)
-
-pub take-short : (n : ℕ) (s : List ℕ) → length (take n s) ≤ n
-take-short n s = omega (arith, length-take n s)
-
--- a part of a record is a part of the file
-pub inner : (f : List ℕ) (start end from to : ℕ) (p : List ℕ) → IsPart (take (end - start) (drop start f)) from to p
-    → take (to - from) (drop (start + from) f) ≡ p
-inner f start end from to p h =
-    let m : length (take (end - start) (drop start f)) ≤ end - start = take-short (end - start) (drop start f) in
-    let w : to - from ≤ end - start - from = omega (arith, h .ordered, h .within) in
-    rw (← drop-drop from start f)
-    (sym (take-take (to - from) (end - start - from) (drop from (drop start f)) w)
-    ∙ ap (take (to - from)) (sym (drop-take from (end - start) (drop start f))) ∙ h .is)
-
 -- the whole file, by what its records come to
 module _ (l : Layout) (f : List ℕ) where
   pub file-long : 1048576 < length f → Refused 2 0 0 ≡ judgedBy l f

@@ -6,6 +6,7 @@ use lib.Dec.{eqb, leb}
 use lib.ListN.{length, getD}
 use Rattle.text.specs.Rules.{must}
 use Rattle.record.specs.Records.{records, bar}
+use Rattle.place.specs.Places.{refusalAt}
 use Rattle.layout.specs.Layout.{Layout, isFooter}
 use Rattle.flow.specs.Publication.{layoutFor}
 use Rattle.flow.specs.Flows.{held, flowNamed}
@@ -14,6 +15,8 @@ use Rattle.fault.specs.declared.Check.{Check}
 use Rattle.fault.specs.declared.Check.the-variants.{Fine, Fault}
 use Rattle.judge.specs.declared.Verdict.{Verdict}
 use Rattle.judge.specs.declared.Verdict.the-variants.{Accepted, Refused}
+use Rattle.judge.specs.declared.Judged.{Judged}
+use Rattle.judge.specs.declared.Judged.the-variants as answers
 
 -- a fault at record n is a refusal, and without one something more is said
 abbrev pub atRecord : ℕ → Check → Verdict → Verdict
@@ -51,16 +54,21 @@ judgedBy l f =
 unfoldable pub verdict : List ℕ → List ℕ → Verdict
 verdict name f = must (held name) (Refused 1 0 0) (judgedBy (layoutFor (flowNamed name)) f)
 
--- document 01's answers: an acceptance gives the number of records, a refusal its number, record and field
+-- a verdict with its refusal's place in the bytes that were handed over, their fields parted by sep
+abbrev pub withPlace : ℕ → List ℕ → Verdict → Judged
+withPlace sep s (Accepted n) = answers.Accepted n
+withPlace sep s (Refused number r k) = answers.Refused (refusalAt sep s number r k)
+
+-- the papers' answers: an acceptance gives the number of records, a refusal its number, record, field and place
 pub data Reply : Type 0 where
   accepted : ℕ → Reply
-  refused : ℕ → ℕ → ℕ → Reply
+  refused : ℕ → ℕ → ℕ → ℕ → Reply
 
--- what each case of the code's answer says in document 01's terms
-abbrev pub paper : Verdict → Reply
-paper (Accepted n) = accepted n
-paper (Refused number r f) = refused number r f
+-- what each case of the code's answer says in the papers' terms
+abbrev pub paper : Judged → Reply
+paper (answers.Accepted n) = accepted n
+paper (answers.Refused r) = refused (r .number) (r .«record») (r .field) (r .place)
 
 -- judge a file for a flow
 unfoldable pub judged : List ℕ → List ℕ → Reply
-judged name f = paper (verdict name f)
+judged name f = paper (withPlace bar f (verdict name f))

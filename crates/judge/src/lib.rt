@@ -1,6 +1,7 @@
 // A file judged for a flow: its records one after the other, and then its end.
 use fault::Outcome;
 use fault::State;
+use place::Refusal;
 use record::BAR;
 use record::Cursor;
 use record::FEED;
@@ -11,11 +12,18 @@ ghost use mathlib.Core.List.{List};
 ghost use Prim.Native.Nat.{ℕ, _<_, _≤_, _^_, _+_, _*_};
 ghost use lib.ListN.{length, set};
 ghost use Rattle.text.specs.Characters.{IsClassTable};
+ghost use Rattle.record.specs.Records.{bar};
 ghost use Rattle.layout.specs.Numbers.{layoutOf};
-ghost use Rattle.judge.specs.File.{endsInFeed, ended as endedOf, judgedBy, judged, paper};
+ghost use Rattle.judge.specs.File.{endsInFeed, ended as endedOf, judgedBy, withPlace, judged, paper};
 ghost use Rattle.judge.specs.Code.{WalkRight};
 
-// What is said of a file: accepted with its number of records, or refused with number, record and field.
+// What is said of a file: accepted with its number of records, or refused.
+pub enum Judged {
+    Accepted(usize),
+    Refused(Refusal),
+}
+
+// The same before a refusal's place is looked up.
 pub enum Verdict {
     Accepted(usize),
     Refused {
@@ -151,20 +159,30 @@ pub fn judge_by(t: &[u32], fixed: &[u8], f: &[u8]) -> Verdict
     }
 }
 
+// A verdict on a file with its refusal's place, which is looked for only where there is one.
+fn with_place(f: &[u8], v: Verdict) -> Judged
+    ensures { λ r. ⌜ r ≡ withPlace bar (now (f .entry)) v ⌝ }
+{
+    match v {
+        Verdict::Accepted(records) => Judged::Accepted(records),
+        Verdict::Refused {
+            number,
+            record,
+            field,
+        } => Judged::Refused(place::at(BAR, f, number, record, field)),
+    }
+}
+
 // A file for a flow: any name, any bytes.
-pub fn judge(flow: &[u8], f: &[u8]) -> Verdict
+pub fn judge(flow: &[u8], f: &[u8]) -> Judged
     ensures { λ v. ⌜ paper v ≡ judged (now (flow .entry)) (now (f .entry)) ⌝ }
 {
     let n = flow::flow_number(flow);
     if n == 0 {
-        return Verdict::Refused {
-            number: 1,
-            record: 0,
-            field: 0,
-        };
+        return Judged::Refused(place::whole(1));
     }
     let table = flow::table_of(n);
     let numbers = table.numbers;
     let fixed = table.fixed;
-    judge_by(&numbers, &fixed, f)
+    with_place(f, judge_by(&numbers, &fixed, f))
 }

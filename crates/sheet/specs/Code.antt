@@ -6,6 +6,7 @@ use lib.ListN.{length, take, drop}
 use Rattle.text.specs.Rules.{must}
 use Rattle.record.specs.Records.{records, turned, bar}
 use Rattle.checksum.specs.Checksum.{checksumOf}
+use Rattle.place.specs.Places.{refusalAt}
 use Rattle.layout.specs.Layout.{Layout, mayFollow}
 use Rattle.judge.specs.Record.{lastKind}
 use Rattle.judge.specs.File.{checkedFrom, finish}
@@ -43,7 +44,7 @@ pub record Taken (name sheet : List ℕ) (n sum : ℕ) : Type 0 where
 
 -- a sheet up to the question of room
 abbrev pub MadeRight : List ℕ → List ℕ → Made → Type 0
-MadeRight name sheet (Refused number r f) = (room : ℕ) → written name sheet room ≡ transfers.Refused number r f
+MadeRight name sheet (Refused number r f) = (room : ℕ) → written name sheet room ≡ transfers.Refused (refusalAt tab sheet number r f)
 MadeRight name sheet (Right n sum) = Taken name sheet n sum
 
 -- bytes with others put at a place

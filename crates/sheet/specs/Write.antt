@@ -1,4 +1,4 @@
--- Writing a file from a sheet (document 01, "Sheets" and the writer's order). Assumes nothing.
+-- Writing a file from a sheet (document 01, "Sheets" and the writer's order; document 02, C-12). Assumes nothing.
 use Prim.Native.Nat.{ℕ}
 use mathlib.Core.Path.{_≡_}
 use mathlib.Core.Bool.{Bool, not, _||_}
@@ -7,11 +7,12 @@ use lib.Dec.{eqb, leb}
 use lib.ListN.{length, drop}
 use Rattle.text.specs.Rules.{must}
 use Rattle.record.specs.Records.{records, holds, bar}
+use Rattle.place.specs.Places.{refusalAt, whole}
 use Rattle.flow.specs.Flows.{held}
-use Rattle.judge.specs.File.{verdict, endsInFeed}
-use Rattle.judge.specs.declared.Verdict.{Verdict}
-use Rattle.judge.specs.declared.Verdict.the-variants as verdicts
-use Rattle.sheet.specs.Sheets.{made, barLine}
+use Rattle.judge.specs.File.{verdict, withPlace, endsInFeed}
+use Rattle.judge.specs.declared.Judged.{Judged}
+use Rattle.judge.specs.declared.Judged.the-variants as files
+use Rattle.sheet.specs.Sheets.{tab, made, barLine}
 use Rattle.sheet.specs.declared.Transfer.{Transfer}
 use Rattle.sheet.specs.declared.Transfer.the-variants.{Done, Refused}
 
@@ -20,38 +21,38 @@ abbrev pub linesEnded : List ℕ → Bool
 linesEnded sheet = eqb (length sheet) 0 || endsInFeed sheet
 
 -- the reader's refusal; where it accepts, what comes after is given its number of records
-abbrev pub asJudged : Verdict → (ℕ → Transfer) → Transfer
-asJudged (verdicts.Accepted n) after = after n
-asJudged (verdicts.Refused number r f) after = Refused number r f
+abbrev pub asJudged : Judged → (ℕ → Transfer) → Transfer
+asJudged (files.Accepted n) after = after n
+asJudged (files.Refused r) after = Refused r
 
 -- 17 where the room is too short for the result; else so many records in so many bytes
 abbrev pub fitted : ℕ → List ℕ → ℕ → Transfer
-fitted room result n = must (leb (length result) room) (Refused 17 0 0) (Done n (length result))
+fitted room result n = must (leb (length result) room) (Refused (whole 17)) (Done n (length result))
 
--- in the writer's order: 1, 2, 16, 15, the reader's from record 1 on the made file, then 17
+-- in the writer's order: 1, 2, 16, 15, the reader's from record 1 on the made file, then 17; each with its place in the sheet
 unfoldable pub written : List ℕ → List ℕ → ℕ → Transfer
 written name sheet room =
-    must (held name) (Refused 1 0 0)
-    (must (leb (length sheet) 1048000) (Refused 2 0 0)
-    (must (not (holds bar sheet)) (Refused 16 (barLine 1 (records sheet)) 0)
-    (must (linesEnded sheet) (Refused 15 (length (records sheet)) 0)
-    (asJudged (verdict name (made sheet))
+    must (held name) (Refused (whole 1))
+    (must (leb (length sheet) 1048000) (Refused (whole 2))
+    (must (not (holds bar sheet)) (Refused (refusalAt tab sheet 16 (barLine 1 (records sheet)) 0))
+    (must (linesEnded sheet) (Refused (refusalAt tab sheet 15 (length (records sheet)) 0))
+    (asJudged (withPlace tab sheet (verdict name (made sheet)))
     (fitted room (made sheet))))))
 
--- document 01's answers: records and bytes written, or a refusal's number, record and field
+-- the papers' answers: records and bytes written, or a refusal's number, record, field and place
 pub data Reply : Type 0 where
   done : ℕ → ℕ → Reply
-  refused : ℕ → ℕ → ℕ → Reply
+  refused : ℕ → ℕ → ℕ → ℕ → Reply
 
--- what each case of the code's answer says in document 01's terms
+-- what each case of the code's answer says in the papers' terms
 abbrev pub paper : Transfer → Reply
 paper (Done records bytes) = done records bytes
-paper (Refused number r f) = refused number r f
+paper (Refused r) = refused (r .number) (r .«record») (r .field) (r .place)
 
 -- the lent output: on success the result, and past it the bytes it held before; on a refusal all of those
 abbrev pub output : Transfer → List ℕ → List ℕ → List ℕ
 output (Done records bytes) result old = result ++ drop bytes old
-output (Refused number r f) result old = old
+output (Refused r) result old = old
 
 -- writing a file from a sheet: the answer, and every byte that was lent
 pub record Wrote (name sheet : List ℕ) (answer : Transfer) (old new : List ℕ) : Type 0 where

@@ -1,6 +1,7 @@
 // Sheets: a file written from one, and one read from a file.
-use judge::Verdict;
+use judge::Judged;
 use judge::Walk;
+use place::Refusal;
 use record::BAR;
 use record::FEED;
 use record::TAB;
@@ -20,18 +21,11 @@ ghost use Rattle.sheet.specs.Code.{LinesRight, MadeRight, put};
 
 // A file or sheet handed over, with its records and bytes; or a refusal, and no byte touched.
 pub enum Transfer {
-    Done {
-        records: usize,
-        bytes: usize,
-    },
-    Refused {
-        number: usize,
-        record: usize,
-        field: usize,
-    },
+    Done { records: usize, bytes: usize },
+    Refused(Refusal),
 }
 
-// A sheet whose made file is right, with that file's records and checksum; or a refusal.
+// A sheet whose made file is right, with that file's records and checksum; or a refusal before its place is looked up.
 pub enum Made {
     Right {
         records: usize,
@@ -308,20 +302,12 @@ pub fn write(flow: &[u8], sheet: &[u8], out: &mut [u8]) -> Transfer
             number,
             record,
             field,
-        } => Transfer::Refused {
-            number,
-            record,
-            field,
-        },
+        } => Transfer::Refused(place::at(TAB, sheet, number, record, field)),
         Made::Right { records, sum } => {
             let at = sheet.len();
             let bytes = at + footer_length(records, sum);
             if out.len() < bytes {
-                return Transfer::Refused {
-                    number: 17,
-                    record: 0,
-                    field: 0,
-                };
+                return Transfer::Refused(place::whole(17));
             }
             put_turned(out, sheet, at, TAB, BAR);
             put_footer(out, at, records, sum);
@@ -335,23 +321,11 @@ pub fn read(flow: &[u8], file: &[u8], out: &mut [u8]) -> Transfer
     ensures { λ a. ⌜ Read (now (flow .entry)) (now (file .entry)) a (now (out .entry)) (now (out .exit)) ⌝ }
 {
     match judge::judge(flow, file) {
-        Verdict::Refused {
-            number,
-            record,
-            field,
-        } => Transfer::Refused {
-            number,
-            record,
-            field,
-        },
-        Verdict::Accepted(records) => {
+        Judged::Refused(refusal) => Transfer::Refused(refusal),
+        Judged::Accepted(records) => {
             let end = last_start(file);
             if out.len() < end {
-                return Transfer::Refused {
-                    number: 17,
-                    record: 0,
-                    field: 0,
-                };
+                return Transfer::Refused(place::whole(17));
             }
             put_turned(out, file, end, BAR, TAB);
             Transfer::Done {

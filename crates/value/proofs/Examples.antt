@@ -10,6 +10,7 @@ use Rattle.number.specs.Numbers.{minus, unsigned, plain, intForm, intValue, dec
 use Rattle.number.specs.Calendar.{leap, daysIn, isDay, isDate, isTime}
 use Rattle.field.specs.Types.{textForm, form, range, valueOf}
 use Rattle.field.specs.Judge.{filled, fieldAnswer}
+use Rattle.place.specs.Places.{fieldStart, placeAt}
 use Rattle.layout.specs.Layout.{among, find}
 use Rattle.flow.specs.Letters.{P0138001}
 use Rattle.flow.specs.Flows.{flowNumber}
@@ -17,7 +18,7 @@ use Rattle.fault.specs.Fields.{fieldFault, fieldsFault}
 use Rattle.fault.specs.Record.{placeFault, shapeFault, keyFault, footerFault, kindFault}
 use Rattle.judge.specs.Record.{lastKind, keyWith, keyBefore, fault}
 use Rattle.judge.specs.File.{checkedFrom, ended, judgedBy, verdict}
-use Rattle.value.specs.Value.{isThere, placeOf, fieldValue, valueBy, valueIn, valued, Reply, refused, empty, number, text}
+use Rattle.value.specs.Value.{isThere, fieldValue, valueBy, valueIn, valued, Reply, refused, empty, number, text}
 
 -- a record and a field that are asked of a file for P0138001, and what is answered
 pub data Case : Type 0 where
@@ -50,18 +51,18 @@ table =
     ∷ case 2 5 (number (pos 20231231))
     ∷ case 4 2 (number (pos 4))
     -- no such record, no such field
-    ∷ case 5 1 (refused 18 5 1)
-    ∷ case 0 1 (refused 18 0 1)
-    ∷ case 3 0 (refused 18 3 0)
-    ∷ case 3 3 (refused 18 3 3)
+    ∷ case 5 1 (refused 18 5 1 88)
+    ∷ case 0 1 (refused 18 0 1 0)
+    ∷ case 3 0 (refused 18 3 0 61)
+    ∷ case 3 3 (refused 18 3 3 61)
     ∷ []
 
--- each is answered as document 01 says
+-- each is answered as the papers say
 pub value-cases : given example table ≡ expected table
-unfolding given expected example table joined onto records fields field turned words addRecord checksum minus unsigned plain intForm intValue decForm decValue spelled leap daysIn isDay isDate isTime textForm form range valueOf filled fieldAnswer among find flowNumber isDigit isText fieldFault fieldsFault lastKind keyWith keyBefore placeFault shapeFault keyFault footerFault kindFault fault checkedFrom ended judgedBy verdict isThere extent placeOf fieldValue valueBy valueIn valued
+unfolding given expected example table joined onto records fields field turned words addRecord checksum minus unsigned plain intForm intValue decForm decValue spelled leap daysIn isDay isDate isTime textForm form range valueOf filled fieldAnswer among find flowNumber isDigit isText fieldFault fieldsFault lastKind keyWith keyBefore placeFault shapeFault keyFault footerFault kindFault fault checkedFrom ended judgedBy verdict isThere extent fieldStart placeAt fieldValue valueBy valueIn valued
 value-cases = refl
 
 -- of a refused file the reader's refusal, whatever is asked: the empty file is 14 at record 1
-pub refused-file : valued P0138001 [] 0 9 ≡ refused 14 1 0
-unfolding flowNumber records lastKind checkedFrom ended judgedBy verdict valueIn valued
+pub refused-file : valued P0138001 [] 0 9 ≡ refused 14 1 0 0
+unfolding flowNumber records lastKind checkedFrom ended judgedBy verdict placeAt valueIn valued
 refused-file = refl

@@ -1,17 +1,20 @@
 -- The value of a field by what the code finds: its record, its place, and the rule of its kind. Assumes nothing.
-use Prim.Native.Nat.{ℕ, zero, suc, _+_, _-_, _*_, _≤_, _<_}
-use mathlib.Core.Path.{_≡_, refl, sym, ap, _∙_}
-use mathlib.Core.Bool.{Bool, true, false, _&&_}
+use Prim.Native.Nat.{ℕ, _+_, _-_, _*_, _≤_, _<_}
+use mathlib.Core.Path.{_≡_, sym, ap, _∙_}
+use mathlib.Core.Bool.{Bool, _&&_}
 use mathlib.Core.List.{List}
 use native.Mathlib.Omega.{arith}
 use lib.ListN.{length, take, drop}
-use borrow.Author.Tests.{le-leb, lt-leb, eq-eqb, ne-eqb}
+use borrow.Author.Tests.{eq-eqb, ne-eqb}
 use Rattle.text.specs.Rules.{must}
 use Rattle.text.specs.Characters.{from-to}
-use Rattle.record.specs.Records.{records, fields, field, extent, bar}
+use Rattle.record.specs.Records.{records, fields, field, bar}
 use Rattle.record.specs.Found.{Stands}
 use Rattle.record.proofs.Cursors.{part-length}
 use Rattle.record.proofs.Search.{field-stands}
+use Rattle.place.specs.Places.{recordAt, placeAt, refusalAt}
+use Rattle.place.proofs.Counted.{counts, counts-not}
+use Rattle.place.proofs.Points.{found-field}
 use Rattle.field.specs.Judge.{bare, marked, fieldAnswer}
 use Rattle.field.specs.declared.FieldType.{FieldType}
 use Rattle.field.specs.declared.FieldType.the-variants as types
@@ -21,7 +24,7 @@ use Rattle.layout.specs.Layout.{Rule, noRule, Layout}
 use Rattle.layout.specs.Numbers.{word, typeOf, fixedOf, ruleOf, layoutOf, RulesOf}
 use Rattle.layout.proofs.FieldRules.{rule-at, rule-past, type-is}
 use Rattle.fault.specs.Record.{kindOf}
-use Rattle.value.specs.Value.{recordAt, isThere, placeOf, endOf, ruleFor, byRule, asValue, fieldValue, valueBy}
+use Rattle.value.specs.Value.{isThere, endOf, ruleFor, byRule, asValue, fieldValue, valueBy}
 use Rattle.value.specs.declared.Value.{Value}
 use Rattle.value.specs.declared.Value.the-variants.{Refused, Text}
 
@@ -40,23 +43,18 @@ module _ (t fixed : List ℕ) (j p m : ℕ) (rules : RulesOf t fixed j p m) (k :
   pub unruled : m ≤ k - 2 → {a : FieldAnswer} → a ≡ fieldAnswer types.Null bare s → a ≡ byRule (ruleFor (layoutOf t fixed) j k) s
   unruled h is = is ∙ sym (ap (λ (r : Rule). byRule r s) (rule-past t fixed j p m rules noRule (k - 2) h))
 
--- a number from 1 to n, and one that is 0 or above n
-counts : (n k : ℕ) → 1 ≤ k → k ≤ n → from-to 1 n k ≡ true
-counts n k h g = rw (le-leb 1 k h, le-leb k n g)
-
-counts-not : (n k : ℕ) → (1 ≤ k → n < k) → from-to 1 n k ≡ false
-counts-not n zero h = refl
-counts-not n (suc k) h = rw (le-leb 1 (suc k) (omega arith), lt-leb (suc k) n (h (omega arith)))
-
 module _ (l : Layout) (f : List ℕ) (n k : ℕ) where
+  abbrev missing : Value
+  missing = Refused (refusalAt bar f 18 n k)
+
   abbrev lastly : Bool → Value
-  lastly b = must b (Refused 18 n k) (fieldValue l f n k)
+  lastly b = must b missing (fieldValue l f n k)
 
   abbrev fieldThere : List ℕ → Bool
   fieldThere r = from-to 1 (length (fields bar r)) k
 
   -- there is no such record
-  pub no-record : (1 ≤ n → length (records f) < n) → Refused 18 n k ≡ valueBy l f n k
+  pub no-record : (1 ≤ n → length (records f) < n) → missing ≡ valueBy l f n k
   unfolding valueBy isThere
   no-record h = sym (ap (λ (b : Bool). lastly (b && fieldThere (recordAt f n))) (counts-not (length (records f)) n h))
 
@@ -72,7 +70,7 @@ module _ (l : Layout) (f : List ℕ) (n k : ℕ) where
         λ i. sym yes i && fieldThere (x .is .is i)
 
     -- there is no such field in it
-    pub no-field : (1 ≤ k → length (fields bar r) < k) → Refused 18 n k ≡ valueBy l f n k
+    pub no-field : (1 ≤ k → length (fields bar r) < k) → missing ≡ valueBy l f n k
     unfolding valueBy
     no-field h = sym (ap lastly (sym there-is ∙ counts-not (length (fields bar r)) k h))
 
@@ -84,14 +82,10 @@ module _ (l : Layout) (f : List ℕ) (n k : ℕ) where
       bytes-are : s ≡ field bar k (recordAt f n)
       bytes-are = field-stands bar k r y .is ∙ ap (field bar k) (x .is .is)
 
-      placed : (start + a ≡ placeOf f n k) × (start + e ≡ endOf f n k)
-      unfolding placeOf
+      placed : (start + a ≡ placeAt bar f n k) × (start + e ≡ endOf f n k)
       placed =
-          let q : a ≡ extent (take (k - 1) (fields bar (recordAt f n))) =
-          y .starts ∙ ap (λ (u : List ℕ). extent (take (k - 1) (fields bar u))) (x .is .is) in (
-            omega (arith, x .starts, q),
-            omega (arith, x .starts, q, y .is .ordered, part-length r a e (y .is .ordered) (y .is .within), ap length bytes-are),
-          )
+          let q = found-field bar f n k x y in
+          (q, omega (arith, q, y .is .ordered, part-length r a e (y .is .ordered) (y .is .within), ap length bytes-are))
 
       found : valueBy l f n k ≡ fieldValue l f n k
       unfolding valueBy

@@ -2,7 +2,8 @@
 use field::FieldAnswer;
 use field::FieldType;
 use field::Mark;
-use judge::Verdict;
+use judge::Judged;
+use place::Refusal;
 use record::BAR;
 use record::Found;
 ghost use mathlib.Core.Path.{_≡_};
@@ -11,20 +12,13 @@ ghost use Prim.Native.Nat.{ℕ, _≤_};
 ghost use Rattle.layout.specs.Numbers.{layoutOf};
 ghost use Rattle.value.specs.Value.{ruleFor, byRule, asValue, valueBy, valued, paper, TextWithin};
 
-// A refusal with number, record and field; or a value. A text's value is where its bytes start and end in the file.
+// A refusal, or a value. A text's value is where its bytes start and end in the file.
 pub enum Value {
-    Refused {
-        number: usize,
-        record: usize,
-        field: usize,
-    },
+    Refused(Refusal),
     Empty,
     Number(i64),
     Truth(bool),
-    Text {
-        from: usize,
-        to: usize,
-    },
+    Text { from: usize, to: usize },
 }
 
 // Field k, past the kind, of a record of kind j, by its rule.
@@ -44,16 +38,17 @@ fn answer_by(t: &[u32], fixed: &[u8], j: usize, k: usize, s: &[u8]) -> FieldAnsw
     field::judge_marked(kind, mark, value, &class, s)
 }
 
-// The answer of field k of record n as a value; a text stands from `from` up to `to`.
+// The answer of field k of record n, which stands from `from` up to `to`, as a value.
 pub fn as_value(a: FieldAnswer, n: usize, k: usize, from: usize, to: usize) -> Value
     ensures { λ v. ⌜ v ≡ asValue n k from to a ⌝ }
 {
     match a {
-        FieldAnswer::Refused(number) => Value::Refused {
+        FieldAnswer::Refused(number) => Value::Refused(Refusal {
             number: number as usize,
             record: n,
             field: k,
-        },
+            place: from,
+        }),
         FieldAnswer::Empty => Value::Empty,
         FieldAnswer::Number(z) => Value::Number(z),
         FieldAnswer::Truth(b) => Value::Truth(b),
@@ -66,19 +61,11 @@ fn value_by(t: &[u32], fixed: &[u8], f: &[u8], n: usize, k: usize) -> Value
     ensures { λ v. ⌜ v ≡ valueBy (layoutOf (now (t .entry)) (now (fixed .entry))) (now (f .entry)) n k ⌝ }
 {
     let Found::At { start, end } = record::record_at(f, n) else {
-        return Value::Refused {
-            number: 18,
-            record: n,
-            field: k,
-        };
+        return Value::Refused(place::at(BAR, f, 18, n, k));
     };
     let r = &f[start..end];
     let Found::At { start: a, end: e } = record::field_at(BAR, r, k) else {
-        return Value::Refused {
-            number: 18,
-            record: n,
-            field: k,
-        };
+        return Value::Refused(place::at(BAR, f, 18, n, k));
     };
     if k == 1 {
         return Value::Text {
@@ -101,16 +88,8 @@ pub fn value_of(flow: &[u8], f: &[u8], n: usize, k: usize) -> Value
     ensures { λ v. ⌜ (paper (now (f .entry)) v ≡ valued (now (flow .entry)) (now (f .entry)) n k) × TextWithin (now (f .entry)) v ⌝ }
 {
     match judge::judge(flow, f) {
-        Verdict::Refused {
-            number,
-            record,
-            field,
-        } => Value::Refused {
-            number: number,
-            record: record,
-            field: field,
-        },
-        Verdict::Accepted(_) => {
+        Judged::Refused(refusal) => Value::Refused(refusal),
+        Judged::Accepted(_) => {
             let table = flow::table_of(flow::flow_number(flow));
             let numbers = table.numbers;
             let fixed = table.fixed;

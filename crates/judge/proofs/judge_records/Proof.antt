@@ -10,7 +10,8 @@ use Rattle.layout.specs.Numbers.{layoutOf}
 use Rattle.layout.proofs.Names.{kind-most}
 use Rattle.fault.specs.Code.{keyInSlots, Passed}
 use Rattle.judge.proofs.Slots.{putIn}
-use Rattle.judge.proofs.Files.{Kept, kept-none, kept-next, kept-stop, kept-done, kind-small, inner, take-short}
+use Rattle.place.proofs.Lies.{inner, take-short}
+use Rattle.judge.proofs.Files.{Kept, kept-none, kept-next, kept-stop, kept-done, kind-small}
 use Rattle.judge.proofs.judge_records.Statement.{statement}
 use Rattle.judge.proofs.judge_records.Tie as tie
 

@@ -1,5 +1,6 @@
 -- `value_by` is right: a record or a field that is not there is 18, a kind is its bytes, and any other field goes by its rule.
 use borrow.Author.Needs.{needs}
+use mathlib.Core.Path.{ap, _∙_}
 use Prim.Native.Nat.{_+_, _-_, _≤_}
 use native.Mathlib.Omega.{arith}
 use lib.ListN.{length, take, drop}
@@ -8,6 +9,7 @@ use Rattle.record.specs.Records.{records, fields, bar}
 use Rattle.record.specs.Found.{Stands}
 use Rattle.record.proofs.Cursors.{part-length}
 use Rattle.layout.specs.Numbers.{layoutOf}
+use Rattle.value.specs.declared.Value.the-variants.{Refused}
 use Rattle.value.proofs.Ruled.{no-record, no-field, kind-value, ruled-value}
 use Rattle.value.proofs.value_by.Statement.{statement}
 use Rattle.value.proofs.value_by.Tie as tie
@@ -21,11 +23,15 @@ enum-known-start c = search needs
 enum-told : tie.Need-enum-told
 enum-told c = search needs
 
+at-requires : tie.Need-at-requires
+at-requires c κs = search needs
+
 returns : tie.Need-returns
 returns c =
-    let a = c .before .before .before .before .before .before .args in
+    let a = c .before .before .before .before .before .before .before .args in
     let l = layoutOf (now (a .t)) (now (a .fixed)) in
-    no-record l (now (a .f)) (a .n) (a .k) (rw (c .enum-told .given .1) at (c .before .before .record-at .ensures))
+    ap Refused (c .at .ensures)
+    ∙ no-record l (now (a .f)) (a .n) (a .k) (rw (c .before .enum-told .given .1) at (c .before .before .before .record-at .ensures))
 
 -- what is said of the record that was found
 here : (c : tie.After-known-told) →
@@ -52,12 +58,16 @@ enum-known-a c = search needs
 enum-told-2 : tie.Need-enum-told-2
 enum-told-2 c = search needs
 
+at-requires-2 : tie.Need-at-requires-2
+at-requires-2 c κs = search needs
+
 returns-2 : tie.Need-returns-2
 returns-2 c =
-    let found = c .before .before .before .before in
+    let found = c .before .before .before .before .before in
     let a = found .before .before .before .before .before .before .before .args in
     let l = layoutOf (now (a .t)) (now (a .fixed)) in
-    no-field l (now (a .f)) (a .n) (a .k) (here found) (rw (c .enum-told2 .given .1) at (c .before .before .field-at .ensures))
+    ap Refused (c .at2 .ensures)
+    ∙ no-field l (now (a .f)) (a .n) (a .k) (here found) (rw (c .before .enum-told2 .given .1) at (c .before .before .before .field-at .ensures))
 
 -- what is said of the field that was found, by its place in the record
 inside : (c : tie.After-known-told2) →
@@ -83,11 +93,11 @@ ends c =
     let y = inside c .is in
     (y .ordered, omega (arith, y .within, x .ordered, x .within, part-length (now (a .f)) (g .0) (g .1 .0) (x .ordered) (x .within)))
 
-add-t18 : tie.Need-add-t18
-add-t18 c = omega (arith, ends (c .before))
+add-t20 : tie.Need-add-t20
+add-t20 c = omega (arith, ends (c .before))
 
-add-t19 : tie.Need-add-t19
-add-t19 c = omega (arith, ends (c .before))
+add-t21 : tie.Need-add-t21
+add-t21 c = omega (arith, ends (c .before))
 
 returns-3 : tie.Need-returns-3
 returns-3 c =
@@ -139,6 +149,7 @@ value-by-spec =
     record-at-requires
     enum-known-start
     enum-told
+    at-requires
     returns
     sub-r
     part-r-start
@@ -146,9 +157,10 @@ value-by-spec =
     field-at-requires
     enum-known-a
     enum-told-2
+    at-requires-2
     returns-2
-    add-t18
-    add-t19
+    add-t20
+    add-t21
     returns-3
     kind-of-requires
     sub-answer-by

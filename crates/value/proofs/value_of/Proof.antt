@@ -12,8 +12,8 @@ use Rattle.value.proofs.value_of.Tie as tie
 judge-requires : tie.Need-judge-requires
 judge-requires c κs = search needs
 
-enum-known-number : tie.Need-enum-known-number
-enum-known-number c = search needs
+enum-known-refusal : tie.Need-enum-known-refusal
+enum-known-refusal c = search needs
 
 enum-told : tie.Need-enum-told
 enum-told c = search needs
@@ -38,7 +38,7 @@ returns c =
     let a = c .before .before .before .before .before .before .args in
     let j = c .before .before .before .judge in
     right (now (a .flow)) (now (a .f)) (a .n) (a .k)
-    (reader-refused (now (a .flow)) (now (a .f)) (a .n) (a .k) (j .result) (j .ensures) (c .before .number .given .1))
+    (reader-refused (now (a .flow)) (now (a .f)) (a .n) (a .k) (j .result) (j .ensures) (c .before .refusal .given .1))
 
 returns-2 : tie.Need-returns-2
 returns-2 c =
@@ -56,7 +56,7 @@ value-of-spec =
     tie.close
     (tie.spec
     judge-requires
-    enum-known-number
+    enum-known-refusal
     enum-told
     flow-number-requires
     table-of-requires

@@ -1,0 +1,4 @@
+pub mod Counted
+pub mod Lies
+pub mod Points
+pub mod Examples
