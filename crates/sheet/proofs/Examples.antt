@@ -9,7 +9,7 @@ use lib.Dec.{ltb, lit≤}
 use lib.ListN.{length}
 use borrow.Author.Tests.{ltb-true}
 use Rattle.text.specs.Characters.{all, bytes, isDigit, isText}
-use Rattle.record.specs.Records.{joined, onto, records, fields, field, turned, holds, Bytes, bar}
+use Rattle.record.specs.Records.{joined, onto, records, fields, field, extent, turned, holds, Bytes, bar}
 use Rattle.checksum.specs.Checksum.{words, addRecord, checksum, checksumOf}
 use Rattle.number.specs.Numbers.{minus, unsigned, plain, intForm, intValue, decForm, decValue, spelled, decimalIn, decimal}
 use Rattle.number.specs.Calendar.{leap, daysIn, isDay, isDate, isTime}
@@ -24,6 +24,7 @@ use Rattle.flow.specs.Flows.{flowNumber, flowNamed}
 use Rattle.fault.specs.Fields.{fieldFault, fieldsFault}
 use Rattle.fault.specs.Record.{placeFault, shapeFault, keyFault, footerFault, kindFault}
 use Rattle.judge.specs.Record.{lastKind, keyWith, keyBefore, fault}
+use Rattle.place.specs.Places.{fieldStart, placeAt, refusal}
 use Rattle.judge.specs.File.{checkedFrom, ended, judgedBy, verdict}
 use Rattle.judge.specs.declared.Verdict.the-variants as verdicts
 use Rattle.sheet.specs.Sheets.{tab, footer, made, barLine, butLast, sheetOf}
@@ -97,26 +98,26 @@ example-written =
       bytes = sym size;
     }
 
--- an empty sheet is 5 at record 1
-pub empty-sheet : (room : ℕ) → written P0138001 [] room ≡ Refused 5 1 1
-unfolding joined onto records fields field turned holds words addRecord checksum checksumOf minus unsigned plain intForm intValue decForm decValue spelled decimalIn decimal leap daysIn isDay isDate isTime textForm form range valueOf filled fieldAnswer among find flowNumber isDigit isText fieldFault fieldsFault lastKind keyWith keyBefore placeFault shapeFault keyFault footerFault kindFault fault checkedFrom ended judgedBy verdict footer made written
+-- an empty sheet is 5 at record 1, the made footer, whose place is the sheet's length
+pub empty-sheet : (room : ℕ) → written P0138001 [] room ≡ Refused (refusal 5 1 1 0)
+unfolding joined onto records fields field turned holds words addRecord checksum checksumOf minus unsigned plain intForm intValue decForm decValue spelled decimalIn decimal leap daysIn isDay isDate isTime textForm form range valueOf filled fieldAnswer among find flowNumber isDigit isText fieldFault fieldsFault lastKind keyWith keyBefore placeFault shapeFault keyFault footerFault kindFault fault checkedFrom ended judgedBy verdict placeAt footer made written
 empty-sheet room = refl
 
 -- a sheet without its last line feed is 15 at its last line
-pub open-sheet : (room : ℕ) → written P0138001 (sheet (zhd ∷ sub ∷ []) ++ turned bar tab (bytes ta2)) room ≡ Refused 15 3 0
-unfolding written flowNumber holds records onto joined turned
+pub open-sheet : (room : ℕ) → written P0138001 (sheet (zhd ∷ sub ∷ []) ++ turned bar tab (bytes ta2)) room ≡ Refused (refusal 15 3 0 61)
+unfolding written flowNumber holds records onto joined turned fields extent fieldStart placeAt
 open-sheet room = refl
 
 -- a bar is 16 at its line, also in a last line that has no line feed
-pub bar-sheet : (room : ℕ) → written P0138001 (sheet (zhd ∷ []) ++ lines (sub ∷ ta2 ∷ [])) room ≡ Refused 16 2 0
-unfolding written flowNumber holds records onto joined turned barLine
+pub bar-sheet : (room : ℕ) → written P0138001 (sheet (zhd ∷ []) ++ lines (sub ∷ ta2 ∷ [])) room ≡ Refused (refusal 16 2 0 42)
+unfolding written flowNumber holds records onto joined turned barLine fields extent fieldStart placeAt
 bar-sheet room = refl
 
-pub open-bar-sheet : (room : ℕ) → written P0138001 (sheet (zhd ∷ []) ++ bytes sub) room ≡ Refused 16 2 0
-unfolding written flowNumber holds records onto joined turned barLine
+pub open-bar-sheet : (room : ℕ) → written P0138001 (sheet (zhd ∷ []) ++ bytes sub) room ≡ Refused (refusal 16 2 0 42)
+unfolding written flowNumber holds records onto joined turned barLine fields extent fieldStart placeAt
 open-bar-sheet room = refl
 
--- behind a right ZPT line the made footer is 5
+-- behind a right ZPT line the made footer is 5, at the sheet's length
 bytes-by : (s : List ℕ) → all (λ b. ltb b 256) s ≡ true → Bytes s
 bytes-by [] e i = omega arith
 bytes-by (b ∷ s) e zero = ltb-true b 256 (and-left (ltb b 256) (all (λ x. ltb x 256) s) e)
@@ -129,7 +130,7 @@ footed-lines : linesJudged (layoutFor (flowNamed P0138001)) (records footedSheet
 unfolding joined onto records fields field turned words addRecord checksum minus unsigned plain intForm intValue decForm decValue spelled leap daysIn isDay isDate isTime textForm form range valueOf filled fieldAnswer among find flowNumber isDigit isText fieldFault fieldsFault lastKind keyWith keyBefore placeFault shapeFault keyFault footerFault kindFault fault checkedFrom linesJudged
 footed-lines = refl
 
-pub footed-sheet : (room : ℕ) → written P0138001 footedSheet room ≡ Refused 5 5 1
-unfolding flowNumber turned joined holds
+pub footed-sheet : (room : ℕ) → written P0138001 footedSheet room ≡ Refused (refusal 5 5 1 88)
+unfolding flowNumber turned joined holds records onto placeAt
 footed-sheet room =
     refused-is P0138001 footedSheet (λ e. let z : _≡_ {A = ℕ} 5 0 = e in omega arith) (lit≤ tt) refl refl (bytes-by footedSheet refl) 5 5 1 room footed-lines

@@ -10,10 +10,12 @@ use borrow.Author.Tests.{le-leb, lt-leb}
 use Rattle.record.specs.Records.{records, turned, joined, bar}
 use Rattle.record.proofs.Turned.{turned-length}
 use Rattle.checksum.specs.Checksum.{checksumOf}
-use Rattle.judge.specs.File.{verdict, judged}
+use Rattle.place.specs.Places.{whole}
+use Rattle.place.specs.declared.Refusal.{Refusal}
+use Rattle.judge.specs.File.{verdict, withPlace, judged}
 use Rattle.judge.specs.File as judging
-use Rattle.judge.specs.declared.Verdict.{Verdict}
-use Rattle.judge.specs.declared.Verdict.the-variants as verdicts
+use Rattle.judge.specs.declared.Judged.{Judged}
+use Rattle.judge.specs.declared.Judged.the-variants as files
 use Rattle.judge.proofs.Demand2.{one-reply}
 use Rattle.sheet.specs.Sheets.{tab, footer, made, butLast, sheetOf}
 use Rattle.sheet.specs.Write.{asJudged, fitted, written, paper, Wrote}
@@ -25,7 +27,7 @@ use Rattle.sheet.proofs.MadeFiles.{made-length}
 
 -- the room and the result
 module _ (room : ℕ) (result : List ℕ) (n : ℕ) where
-  pub fits-not : room < length result → fitted room result n ≡ Refused 17 0 0
+  pub fits-not : room < length result → fitted room result n ≡ Refused (whole 17)
   fits-not h = rw (lt-leb (length result) room h)
 
   pub fits : length result ≤ room → fitted room result n ≡ Done n (length result)
@@ -33,12 +35,12 @@ module _ (room : ℕ) (result : List ℕ) (n : ℕ) where
 
 -- the writer
 module _ (name sheet old : List ℕ) where
-  pub wrote-refused : (number r f : ℕ) → written name sheet (length old) ≡ Refused number r f → Wrote name sheet (Refused number r f) old old
-  wrote-refused number r f e = record { says = ap paper (sym e); leaves = refl }
+  pub wrote-refused : {r q : Refusal} → r ≡ q → written name sheet (length old) ≡ Refused q → Wrote name sheet (Refused r) old old
+  wrote-refused z e = record { says = ap (λ (x : Refusal). paper (Refused x)) z ∙ ap paper (sym e); leaves = refl }
 
   module _ (n sum b : ℕ) (t : Taken name sheet n sum) (size : b ≡ length (made sheet)) where
-    pub wrote-no-room : length old < b → Wrote name sheet (Refused 17 0 0) old old
-    wrote-no-room h = wrote-refused 17 0 0 (t .says (length old) ∙ fits-not (length old) (made sheet) n (rw size at h))
+    pub wrote-no-room : {r : Refusal} → r ≡ whole 17 → length old < b → Wrote name sheet (Refused r) old old
+    wrote-no-room z h = wrote-refused z (t .says (length old) ∙ fits-not (length old) (made sheet) n (rw size at h))
 
     pub wrote-done : (new : List ℕ) → b ≤ length old → new ≡ made sheet ++ drop b old → Wrote name sheet (Done n b) old new
     wrote-done new h e =
@@ -71,12 +73,12 @@ module _ (sheet old : List ℕ) (n sum : ℕ) (t : Totals sheet n sum) where
 
 -- the reader
 module _ (name f old : List ℕ) where
-  read-is : (v : Verdict) → judging.paper v ≡ judged name f → paper (asJudged v (fitted (length old) (sheetOf f))) ≡ paper (readTo name f (length old))
+  read-is : (v : Judged) → judging.paper v ≡ judged name f → paper (asJudged v (fitted (length old) (sheetOf f))) ≡ paper (readTo name f (length old))
   unfolding readTo judged
-  read-is v e = ap (λ (w : Verdict). paper (asJudged w (fitted (length old) (sheetOf f)))) (one-reply v (verdict name f) e)
+  read-is v e = ap (λ (w : Judged). paper (asJudged w (fitted (length old) (sheetOf f)))) (one-reply v (withPlace bar f (verdict name f)) e)
 
-  pub read-refused : (number r g : ℕ) → judging.refused number r g ≡ judged name f → Read name f (Refused number r g) old old
-  read-refused number r g e = record { says = read-is (verdicts.Refused number r g) e; leaves = refl }
+  pub read-refused : (r : Refusal) → judging.paper (files.Refused r) ≡ judged name f → Read name f (Refused r) old old
+  read-refused r e = record { says = read-is (files.Refused r) e; leaves = refl }
 
   -- the last record starts at b
   module _ (n b : ℕ) (accepts : judging.accepted n ≡ judged name f) (within : b ≤ length f) (front : joined (butLast (records f)) ≡ take b f) where
@@ -87,10 +89,14 @@ module _ (name f old : List ℕ) where
     size : length (sheetOf f) ≡ b
     size = ap length sheet-is ∙ turned-length bar tab (take b f) ∙ length-take-le b f within
 
-    pub read-no-room : length old < b → Read name f (Refused 17 0 0) old old
-    read-no-room h =
+    pub read-no-room : {r : Refusal} → r ≡ whole 17 → length old < b → Read name f (Refused r) old old
+    read-no-room z h =
         let over : length old < length (sheetOf f) = omega (arith, size) in
-        record { says = ap paper (sym (fits-not (length old) (sheetOf f) n over)) ∙ read-is (verdicts.Accepted n) accepts; leaves = refl }
+        record {
+          says =
+              ap (λ (x : Refusal). paper (Refused x)) z ∙ ap paper (sym (fits-not (length old) (sheetOf f) n over)) ∙ read-is (files.Accepted n) accepts;
+          leaves = refl;
+        }
 
     pub read-done : (new : List ℕ) → b ≤ length old → new ≡ turned bar tab (take b f) ++ drop b old → Read name f (Done n b) old new
     read-done new h e =
@@ -98,6 +104,6 @@ module _ (name f old : List ℕ) where
         record {
           says =
               ap (λ (k : ℕ). paper (Done n k)) (sym size) ∙ ap paper (sym (fits (length old) (sheetOf f) n room))
-              ∙ read-is (verdicts.Accepted n) accepts;
+              ∙ read-is (files.Accepted n) accepts;
           leaves = e ∙ ap (λ (x : List ℕ). x ++ drop b old) (sym sheet-is);
         }

@@ -10,20 +10,23 @@ use lib.ListN.{length, getD, take, drop, length-append}
 use lib.Seq.{take-at, getD-append-add}
 use borrow.Author.Tests.{leb-true, le-leb, ne-eqb, not-true}
 use Rattle.text.specs.Rules.{must}
+use Rattle.text.proofs.Inverse.{same-said}
 use Rattle.record.specs.Records.{records, turned, barred, joined, holds, someHolds, bar}
 use Rattle.checksum.specs.Checksum.{checksum, checksumOf}
 use Rattle.record.proofs.Turned.{turned-back, turned-gone, turned-joined, records-turned-length}
 use Rattle.record.proofs.Cutting.{records-joined, records-free, records-le, joined-append}
 use Rattle.checksum.proofs.Sums.{checksumOf-joined}
+use Rattle.place.specs.Places.{refusal, refusalAt, whole}
+use Rattle.place.specs.declared.Refusal.{Refusal}
 use Rattle.layout.specs.Layout.{Layout}
 use Rattle.flow.specs.Publication.{layoutFor}
 use Rattle.flow.specs.Flows.{held, flowNumber, flowNamed}
-use Rattle.judge.specs.File.{endsInFeed, verdict, judgedBy}
+use Rattle.judge.specs.File.{endsInFeed, verdict, withPlace, judgedBy}
 use Rattle.judge.specs.declared.Verdict.{Verdict}
 use Rattle.judge.specs.declared.Verdict.the-variants as verdicts
 use Rattle.judge.proofs.Passes.{Passes, passes, passed, must-accepted}
 use Rattle.sheet.specs.Sheets.{tab, footer, made, butLast, sheetOf, withFeed}
-use Rattle.sheet.specs.Write.{linesEnded, asJudged, fitted, written, paper, output, Wrote}
+use Rattle.sheet.specs.Write.{linesEnded, asJudged, fitted, written, Reply, done, refused, paper, output, Wrote}
 use Rattle.sheet.specs.Read.{readTo, Read}
 use Rattle.sheet.specs.declared.Transfer.{Transfer}
 use Rattle.sheet.specs.declared.Transfer.the-variants.{Done, Refused}
@@ -43,16 +46,17 @@ pub record Takes (name sheet : List ℕ) (room n b : ℕ) : Type 0 where
   pub fits : length (made sheet) ≤ room
   pub bytes : b ≡ length (made sheet)
 
-no-done : {x r f n b : ℕ} → Refused x r f ≡ Done n b → ⊥
+no-done : {r : Refusal} {n b : ℕ} → Refused r ≡ Done n b → ⊥
 no-done e = let z : _≡_ {A = ℕ} 0 1 = cc in omega arith
 
-must-done : (t : Bool) (x r f n b : ℕ) (a : Transfer) → must t (Refused x r f) a ≡ Done n b → (t ≡ true) × (a ≡ Done n b)
-must-done true x r f n b a e = (refl, e)
-must-done false x r f n b a e = absurd (no-done e)
+must-done : (t : Bool) (r : Refusal) (n b : ℕ) (a : Transfer) → must t (Refused r) a ≡ Done n b → (t ≡ true) × (a ≡ Done n b)
+must-done true r n b a e = (refl, e)
+must-done false r n b a e = absurd (no-done e)
 
-judged-done : (v : Verdict) (after : ℕ → Transfer) (n b : ℕ) → asJudged v after ≡ Done n b → (m : ℕ) × (v ≡ verdicts.Accepted m) × (after m ≡ Done n b)
-judged-done (verdicts.Accepted m) after n b e = (m, refl, e)
-judged-done (verdicts.Refused x r f) after n b e = absurd (no-done e)
+judged-done : (sep : ℕ) (s : List ℕ) (v : Verdict) (after : ℕ → Transfer) (n b : ℕ) → asJudged (withPlace sep s v) after ≡ Done n b
+    → (m : ℕ) × (v ≡ verdicts.Accepted m) × (after m ≡ Done n b)
+judged-done sep s (verdicts.Accepted m) after n b e = (m, refl, e)
+judged-done sep s (verdicts.Refused x r f) after n b e = absurd (no-done e)
 
 same-records : {m n b c : ℕ} → Done m c ≡ Done n b → m ≡ n
 same-records e = cc
@@ -64,14 +68,15 @@ module _ (name sheet : List ℕ) (room n b : ℕ) where
   takes : written name sheet room ≡ Done n b → Takes name sheet room n b
   unfolding written
   takes e =
-      let after = asJudged (verdict name (made sheet)) (fitted room (made sheet)) in
-      let lined = must (linesEnded sheet) (Refused 15 (length (records sheet)) 0) after in
-      let p = must-done (held name) 1 0 0 n b _ e in
-      let q = must-done (leb (length sheet) 1048000) 2 0 0 n b _ (p .1) in
-      let r = must-done (not (holds bar sheet)) 16 _ 0 n b lined (q .1) in
-      let s = must-done (linesEnded sheet) 15 (length (records sheet)) 0 n b after (r .1) in
-      let v = judged-done (verdict name (made sheet)) (fitted room (made sheet)) n b (s .1) in
-      let t = must-done (leb (length (made sheet)) room) 17 0 0 n b (Done (v .0) (length (made sheet))) (v .2) in
+      let after = asJudged (withPlace tab sheet (verdict name (made sheet))) (fitted room (made sheet)) in
+      let unended = refusalAt tab sheet 15 (length (records sheet)) 0 in
+      let lined = must (linesEnded sheet) (Refused unended) after in
+      let p = must-done (held name) (whole 1) n b _ e in
+      let q = must-done (leb (length sheet) 1048000) (whole 2) n b _ (p .1) in
+      let r = must-done (not (holds bar sheet)) _ n b lined (q .1) in
+      let s = must-done (linesEnded sheet) unended n b after (r .1) in
+      let v = judged-done tab sheet (verdict name (made sheet)) (fitted room (made sheet)) n b (s .1) in
+      let t = must-done (leb (length (made sheet)) room) (whole 17) n b (Done (v .0) (length (made sheet))) (v .2) in
       record {
         within = leb-true _ _ (q .0);
         noBar = not-true _ (r .0);
@@ -203,11 +208,16 @@ module _ (name f : List ℕ) (n : ℕ) (accepts : verdict name f ≡ verdicts.Ac
       )
 
 -- two answers that say the same are the same, and leave the same bytes
+abbrev said : Reply → Transfer
+said (done n b) = Done n b
+said (refused number r f place) = Refused (refusal number r f place)
+
+said-paper : (a : Transfer) → said (paper a) ≡ a
+said-paper (Done n b) = refl
+said-paper (Refused r) = refl
+
 pub same-answer : (a b : Transfer) → paper a ≡ paper b → a ≡ b
-same-answer (Done n x) (Done m y) e = cc
-same-answer (Done n x) (Refused m r f) e = let z : _≡_ {A = ℕ} 0 1 = cc in absurd (omega arith)
-same-answer (Refused n q g) (Done m y) e = let z : _≡_ {A = ℕ} 0 1 = cc in absurd (omega arith)
-same-answer (Refused n q g) (Refused m r f) e = cc
+same-answer a b e = same-said paper said said-paper a b e
 
 pub one-transfer : (a b answer : Transfer) (result old new new′ : List ℕ) → paper a ≡ paper answer → paper b ≡ paper answer
     → new ≡ output a result old → new′ ≡ output b result old → (a ≡ b) × (new ≡ new′)
@@ -246,8 +256,8 @@ module _ (name : List ℕ) (n b : ℕ) (old new : List ℕ) (answer : Transfer) 
   unfolding readTo
   file-returns f r short w h =
       let says = same-answer (Done n b) (readTo name f (length old)) (r .says) in
-      let v = judged-done (verdict name f) (fitted (length old) (sheetOf f)) n b (sym says) in
-      let t = must-done (leb (length (sheetOf f)) (length old)) 17 0 0 n b (Done (v .0) (length (sheetOf f))) (v .2) in
+      let v = judged-done bar f (verdict name f) (fitted (length old) (sheetOf f)) n b (sym says) in
+      let t = must-done (leb (length (sheetOf f)) (length old)) (whole 17) n b (Done (v .0) (length (sheetOf f))) (v .2) in
       let accepts = v .1 ∙ ap verdicts.Accepted (same-records (t .1)) in
       let back = file-back name f n accepts short in
       let sheet : take b new ≡ sheetOf f = ap (take b) (r .leaves) ∙ take-at (sheetOf f) (drop b old) b (sym (same-bytes (t .1))) in

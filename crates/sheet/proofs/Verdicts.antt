@@ -11,6 +11,7 @@ use Rattle.checksum.specs.Checksum.{checksumOf}
 use Rattle.checksum.proofs.Sums.{checksumOf-lt}
 use Rattle.record.proofs.Cutting.{records-le}
 use Rattle.record.proofs.Turned.{turned-bytes}
+use Rattle.place.specs.Places.{placeAt, refusalAt}
 use Rattle.layout.specs.Layout.{Layout, mayFollow}
 use Rattle.flow.specs.Publication.{layoutFor}
 use Rattle.flow.specs.Flows.{held, flowNumber, flowNamed}
@@ -67,25 +68,25 @@ module _ (l : Layout) (sheet : List ℕ) where
 
 -- the writer's tests, one after the other
 module _ (name sheet : List ℕ) where
-  pub sheet-no-flow : flowNumber name ≡ 0 → (room : ℕ) → written name sheet room ≡ transfers.Refused 1 0 0
-  unfolding written
+  pub sheet-no-flow : flowNumber name ≡ 0 → (room : ℕ) → written name sheet room ≡ transfers.Refused (refusalAt tab sheet 1 0 0)
+  unfolding written placeAt
   sheet-no-flow e room = rw e
 
   module _ (known : flowNumber name ≡ 0 → ⊥) where
     is-held : held name ≡ true
     is-held = rw (ne-eqb (flowNumber name) 0 known)
 
-    pub sheet-long : 1048000 < length sheet → (room : ℕ) → written name sheet room ≡ transfers.Refused 2 0 0
-    unfolding written
+    pub sheet-long : 1048000 < length sheet → (room : ℕ) → written name sheet room ≡ transfers.Refused (refusalAt tab sheet 2 0 0)
+    unfolding written placeAt
     sheet-long h room = rw (is-held, lt-leb (length sheet) 1048000 h)
 
     module _ (short : length sheet ≤ 1048000) where
-      pub sheet-bar : holds bar sheet ≡ true → (room : ℕ) → written name sheet room ≡ transfers.Refused 16 (barLine 1 (records sheet)) 0
+      pub sheet-bar : holds bar sheet ≡ true → (room : ℕ) → written name sheet room ≡ transfers.Refused (refusalAt tab sheet 16 (barLine 1 (records sheet)) 0)
       unfolding written
       sheet-bar e room = rw (is-held, le-leb (length sheet) 1048000 short, e)
 
       module _ (free : holds bar sheet ≡ false) where
-        pub sheet-open : linesEnded sheet ≡ false → (room : ℕ) → written name sheet room ≡ transfers.Refused 15 (length (records sheet)) 0
+        pub sheet-open : linesEnded sheet ≡ false → (room : ℕ) → written name sheet room ≡ transfers.Refused (refusalAt tab sheet 15 (length (records sheet)) 0)
         unfolding written
         sheet-open e room = rw (is-held, le-leb (length sheet) 1048000 short, free, e)
 
@@ -100,7 +101,7 @@ module _ (name sheet : List ℕ) where
           unfolding verdict
           verdict-is = rw is-held (made-judged l (properFooter (flowNumber name)) sheet short free ends small)
 
-          pub refused-is : (number r f room : ℕ) → linesJudged l (records sheet) ≡ Refused number r f → written name sheet room ≡ transfers.Refused number r f
+          pub refused-is : (number r f room : ℕ) → linesJudged l (records sheet) ≡ Refused number r f → written name sheet room ≡ transfers.Refused (refusalAt tab sheet number r f)
           unfolding written
           refused-is number r f room e = rw (is-held, le-leb (length sheet) 1048000 short, free, ends, verdict-is, e)
 

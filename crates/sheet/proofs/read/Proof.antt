@@ -8,8 +8,8 @@ use Rattle.sheet.proofs.read.Tie as tie
 judge-requires : tie.Need-judge-requires
 judge-requires c κs = search needs
 
-enum-known-number : tie.Need-enum-known-number
-enum-known-number c = search needs
+enum-known-refusal : tie.Need-enum-known-refusal
+enum-known-refusal c = search needs
 
 enum-known-records : tie.Need-enum-known-records
 enum-known-records c = search needs
@@ -17,12 +17,15 @@ enum-known-records c = search needs
 last-start-requires : tie.Need-last-start-requires
 last-start-requires c κs = search needs
 
+whole-requires : tie.Need-whole-requires
+whole-requires c κs = search needs
+
 returns : tie.Need-returns
 returns c =
-    let a = c .before .before .before .before .before .before .before .before .before .args in
-    let g = c .before .before .before .records .given in
-    let s = c .before .last-start in
-    read-no-room (now (a .flow)) (now (a .file)) (now (a .out)) (g .0 .0) (s .result) (rw (g .1) at (c .before .before .before .before .before .judge .ensures)) (s .ensures .0) (s .ensures .1) (c .if1 .taken)
+    let a = c .before .before .before .before .before .before .before .before .before .before .args in
+    let g = c .before .before .before .before .records .given in
+    let s = c .before .before .last-start in
+    read-no-room (now (a .flow)) (now (a .file)) (now (a .out)) (g .0 .0) (s .result) (rw (g .1) at (c .before .before .before .before .before .before .judge .ensures)) (s .ensures .0) (s .ensures .1) (c .whole .ensures) (c .before .if1 .taken)
 
 put-turned-requires : tie.Need-put-turned-requires
 put-turned-requires c κs = search needs
@@ -30,8 +33,8 @@ put-turned-requires c κs = search needs
 returns-2 : tie.Need-returns-2
 returns-2 c =
     let a = c .before .before .before .before .before .before .before .args in
-    let g = c .before .number .given in
-    read-refused (now (a .flow)) (now (a .file)) (now (a .out)) _ _ _ (rw (g .1) at (c .before .before .before .judge .ensures))
+    let g = c .before .refusal .given in
+    read-refused (now (a .flow)) (now (a .file)) (now (a .out)) _ (rw (g .1) at (c .before .before .before .judge .ensures))
 
 same-length : tie.Need-same-length
 same-length c = search needs
@@ -49,9 +52,10 @@ read-spec =
     tie.close
     (tie.spec
     judge-requires
-    enum-known-number
+    enum-known-refusal
     enum-known-records
     last-start-requires
+    whole-requires
     returns
     put-turned-requires
     returns-2

@@ -17,6 +17,9 @@ judge-sheet-requires c κs = search needs
 enum-known-number : tie.Need-enum-known-number
 enum-known-number c = search needs
 
+at-requires : tie.Need-at-requires
+at-requires c κs = search needs
+
 enum-known-records : tie.Need-enum-known-records
 enum-known-records c = search needs
 
@@ -26,14 +29,17 @@ footer-length-requires c κs = search needs
 add-bytes : tie.Need-add-bytes
 add-bytes c = search needs
 
+whole-requires : tie.Need-whole-requires
+whole-requires c κs = search needs
+
 returns : tie.Need-returns
 returns c =
-    let a = c .before .before .before .before .before .before .before .before .before .args in
-    let g = c .before .before .before .records .given in
-    let t = rw (g .1) at (c .before .before .before .before .before .judge-sheet .ensures) in
+    let a = c .before .before .before .before .before .before .before .before .before .before .args in
+    let g = c .before .before .before .before .records .given in
+    let t = rw (g .1) at (c .before .before .before .before .before .before .judge-sheet .ensures) in
     wrote-no-room (now (a .flow)) (now (a .sheet)) (now (a .out)) (g .0 .0) (g .0 .1 .0) _ t
-    (ap (λ (k : ℕ). length (now (a .sheet)) + k) (c .before .footer-length .ensures .0) ∙ made-size (now (a .sheet)) (now (a .out)) (g .0 .0) (g .0 .1 .0) (t .totals))
-    (c .if1 .taken)
+    (ap (λ (k : ℕ). length (now (a .sheet)) + k) (c .before .before .footer-length .ensures .0) ∙ made-size (now (a .sheet)) (now (a .out)) (g .0 .0) (g .0 .1 .0) (t .totals))
+    (c .whole .ensures) (c .before .if1 .taken)
 
 put-turned-requires : tie.Need-put-turned-requires
 put-turned-requires c κs = search needs
@@ -43,9 +49,10 @@ put-footer-requires c κs = search needs
 
 returns-2 : tie.Need-returns-2
 returns-2 c =
-    let a = c .before .before .before .before .before .before .before .args in
-    let g = c .before .number .given in
-    wrote-refused (now (a .flow)) (now (a .sheet)) (now (a .out)) _ _ _ ((rw (g .1) at (c .before .before .before .judge-sheet .ensures)) (length (now (a .out))))
+    let a = c .before .before .before .before .before .before .before .before .args in
+    let g = c .before .before .number .given in
+    wrote-refused (now (a .flow)) (now (a .sheet)) (now (a .out)) (c .at .ensures)
+    ((rw (g .1) at (c .before .before .before .before .judge-sheet .ensures)) (length (now (a .out))))
 
 same-length : tie.Need-same-length
 same-length c = search needs
@@ -67,9 +74,11 @@ write-spec =
     (tie.spec
     judge-sheet-requires
     enum-known-number
+    at-requires
     enum-known-records
     footer-length-requires
     add-bytes
+    whole-requires
     returns
     put-turned-requires
     put-footer-requires
