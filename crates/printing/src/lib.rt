@@ -1,5 +1,6 @@
 // Lines of words parted by tabs on standard output, each made in a local array and written by one call.
-use judge::Verdict;
+use judge::Judged;
+use place::Refusal;
 use stream::print;
 use stream::put;
 use stream::put_number;
@@ -7,38 +8,34 @@ ghost use mathlib.Core.Path.{_≡_};
 ghost use Prim.Native.Nat.{_≤_};
 ghost use lib.IntN.{natAbs};
 
-// Writes a line of a word and three numbers.
-pub fn print_numbers(word: &[u8], a: usize, b: usize, c: usize) -> bool {
+// Writes a line of a short word and at most five numbers.
+pub fn print_numbers(word: &[u8], numbers: &[usize]) -> bool {
     let mut line = [0u8; 128];
-    let at = put(&mut line, 0, word);
-    let at = put_number(&mut line, at, a);
-    let at = put_number(&mut line, at, b);
-    let at = put_number(&mut line, at, c);
-    let at = put(&mut line, at, b"\n");
-    print(&line[..at])
+    let mut at = put(&mut line, 0, word);
+    let mut i = 0;
+    while i < numbers.len() {
+        at = put_number(&mut line, at, numbers[i]);
+        i += 1;
+    }
+    let end = put(&mut line, at, b"\n");
+    print(&line[..end])
 }
 
-// Writes a line of a word and four numbers.
-pub fn print_transfer(word: &[u8], a: usize, b: usize, c: usize, d: usize) -> bool {
-    let mut line = [0u8; 128];
-    let at = put(&mut line, 0, word);
-    let at = put_number(&mut line, at, a);
-    let at = put_number(&mut line, at, b);
-    let at = put_number(&mut line, at, c);
-    let at = put_number(&mut line, at, d);
-    let at = put(&mut line, at, b"\n");
-    print(&line[..at])
+// Writes the line of a file that is accepted.
+pub fn print_accepted(records: usize) -> bool {
+    print_numbers(b"ok", &[0, records, 0, 0])
 }
 
-// Writes the line of a verdict on a file.
-pub fn print_verdict(v: Verdict) -> bool {
-    match v {
-        Verdict::Accepted(records) => print_numbers(b"ok", 0, records, 0),
-        Verdict::Refused {
-            number,
-            record,
-            field,
-        } => print_numbers(b"refused", number, record, field),
+// Writes the line of a refusal.
+pub fn print_refusal(r: Refusal) -> bool {
+    print_numbers(b"refused", &[r.number, r.record, r.field, r.place])
+}
+
+// Writes the line of what is said of a file.
+pub fn print_judged(j: Judged) -> bool {
+    match j {
+        Judged::Accepted(records) => print_accepted(records),
+        Judged::Refused(r) => print_refusal(r),
     }
 }
 
