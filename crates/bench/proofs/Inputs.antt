@@ -11,22 +11,22 @@ use Rattle.judge.specs.File.{refused, judged}
 use Rattle.bench.specs.Bench.{benched}
 
 module _ (s : List ℕ) where
-  pub short : length s < 9 → refused 1 0 0 ≡ benched s
+  pub short : length s < 9 → refused 1 0 0 0 ≡ benched s
   unfolding benched
   short h = rw (lt-leb _ _ h)
 
   module _ (long : 9 ≤ length s) where
-    pub no-feed : (getD s 8 0 ≡ 10 → ⊥) → refused 1 0 0 ≡ benched s
+    pub no-feed : (getD s 8 0 ≡ 10 → ⊥) → refused 1 0 0 0 ≡ benched s
     unfolding benched
     no-feed f = rw (le-leb _ _ long, ne-eqb _ _ f)
 
     module _ (feed : getD s 8 0 ≡ 10) where
-      pub no-flow : flowNumber (take 8 s) ≡ 0 → refused 1 0 0 ≡ benched s
+      pub no-flow : flowNumber (take 8 s) ≡ 0 → refused 1 0 0 0 ≡ benched s
       unfolding benched
       no-flow e = rw (le-leb _ _ long, eq-eqb _ _ feed, eq-eqb _ _ e)
 
       module _ (flow : flowNumber (take 8 s) ≡ 0 → ⊥) where
-        pub too-long : 65545 < length s → refused 2 0 0 ≡ benched s
+        pub too-long : 65545 < length s → refused 2 0 0 0 ≡ benched s
         unfolding benched
         too-long h = rw (le-leb _ _ long, eq-eqb _ _ feed, ne-eqb _ _ flow, lt-leb _ _ h)
 

@@ -9,7 +9,7 @@ use Rattle.judge.specs.File.{Reply, accepted, refused, judged}
 -- an answer that accepts
 abbrev pub accepts : Reply → Bool
 accepts (accepted n) = true
-accepts (refused number r f) = false
+accepts (refused number r f place) = false
 
 -- a file passes where it is accepted
 unfoldable pub passes : List ℕ → List ℕ → Bool

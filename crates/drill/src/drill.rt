@@ -1,5 +1,5 @@
 // A good file spoiled: one byte at a time is made another, the file is judged, and the byte is put back.
-use judge::Verdict;
+use judge::Judged;
 use stream::tell;
 use stream::tell_number;
 ghost use mathlib.Core.Path.{_≡_};
@@ -41,12 +41,8 @@ fn accepts(flow: &[u8], file: &[u8]) -> bool
     ensures { λ r. ⌜ r ≡ passes (now (flow .entry)) (now (file .entry)) ⌝ }
 {
     match judge::judge(flow, file) {
-        Verdict::Accepted(_) => true,
-        Verdict::Refused {
-            number: _,
-            record: _,
-            field: _,
-        } => false,
+        Judged::Accepted(_) => true,
+        Judged::Refused(_) => false,
     }
 }
 
@@ -59,7 +55,7 @@ fn other(b: u8, d: usize) -> u8
 
 // Says at which place and by which byte a spoiled file passed. Where one could not be printed, no other is tried.
 fn print_passed(t: Tally, at: usize, b: u8) -> bool {
-    t.written && printing::print_numbers(b"PASSED", at, b as usize, 0)
+    t.written && printing::print_numbers(b"PASSED", &[at, b as usize, 0])
 }
 
 // Counts a spoiled file, and says where it passed, if it did.

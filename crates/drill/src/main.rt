@@ -3,7 +3,8 @@ mod drill;
 
 use drill::Plan;
 use drill::Tally;
-use judge::Verdict;
+use judge::Judged;
+use place::Refusal;
 use stream::Ending;
 ghost use Prim.Native.Nat.{_+_, _≤_, _<_, _^_};
 ghost use lib.ListN.{length};
@@ -50,9 +51,9 @@ fn run(flow: &[u8], file: &mut [u8]) -> Ending
     Ending::Well
 }
 
-// Says that a file is not good to begin with.
-fn not_good(number: usize, record: usize, field: usize) -> Ending {
-    if printing::print_numbers(b"not good: refused", number, record, field) {
+// Says that a file is not good to begin with, and its refusal.
+fn not_good(r: Refusal) -> Ending {
+    if stream::print(b"not good: ") && printing::print_refusal(r) {
         return Ending::Refused;
     }
     Ending::Hindered
@@ -61,18 +62,14 @@ fn not_good(number: usize, record: usize, field: usize) -> Ending {
 // The first line says whether the file is good to begin with. A good file is within the limit, so that the sums have room.
 fn drill_file(flow: &[u8], file: &mut [u8]) -> Ending {
     match judge::judge(flow, file) {
-        Verdict::Accepted(records) => {
-            if printing::print_numbers(b"good", 0, records, 0) {
+        Judged::Accepted(records) => {
+            if printing::print_numbers(b"good", &[0, records, 0]) {
                 run(flow, file)
             } else {
                 Ending::Hindered
             }
         }
-        Verdict::Refused {
-            number,
-            record,
-            field,
-        } => not_good(number, record, field),
+        Judged::Refused(r) => not_good(r),
     }
 }
 

@@ -16,18 +16,21 @@ enum-known-records c = search needs
 slice-aggregate-print-numbers : tie.Need-slice-aggregate-print-numbers
 slice-aggregate-print-numbers c = search needs
 
+slice-aggregate-print-numbers-2 : tie.Need-slice-aggregate-print-numbers-2
+slice-aggregate-print-numbers-2 c = search needs
+
 print-numbers-requires : tie.Need-print-numbers-requires
 print-numbers-requires c κs = search needs
 
 run-requires : tie.Need-run-requires
 run-requires c κs =
-    let r = c .before .before .before .before .before in
+    let r = c .before .before .before .before .before .before in
     let j = r .before .before in
     let a = j .before .before .before .before .args in
     good-fits (now (a .flow)) (now (a .file)) (r .records .given .0 .0) (sym (j .judge .ensures) ∙ ap paper (r .records .given .1))
 
-enum-known-number : tie.Need-enum-known-number
-enum-known-number c = search needs
+enum-known-r : tie.Need-enum-known-r
+enum-known-r c = search needs
 
 not-good-requires : tie.Need-not-good-requires
 not-good-requires c κs = search needs
@@ -57,9 +60,10 @@ drill-file-spec =
     judge-requires
     enum-known-records
     slice-aggregate-print-numbers
+    slice-aggregate-print-numbers-2
     print-numbers-requires
     run-requires
-    enum-known-number
+    enum-known-r
     not-good-requires
     same-length
     returns
