@@ -8,7 +8,7 @@ use field::Mark;
 use flow::StepAnswer;
 use printing::print_follow;
 use printing::print_numbers;
-use printing::print_transfer;
+use printing::print_refusal;
 use printing::print_truth;
 use printing::print_value;
 use printing::print_whole;
@@ -20,11 +20,7 @@ use value::Value;
 // The value of one field of a file.
 fn value_line(flow: &[u8], record: usize, field: usize, file: &[u8]) -> bool {
     match value::value_of(flow, file, record, field) {
-        Value::Refused {
-            number,
-            record,
-            field,
-        } => print_numbers(b"refused", number, record, field),
+        Value::Refused(r) => print_refusal(r),
         Value::Empty => print_value(b"empty", b""),
         Value::Number(n) => print_whole(n),
         Value::Truth(truth) => print_truth(truth),
@@ -35,7 +31,7 @@ fn value_line(flow: &[u8], record: usize, field: usize, file: &[u8]) -> bool {
 // One field's bytes against a type and its mark. A text's value is the bytes themselves.
 fn field_line(form: FieldType, mark: Mark, fixed: &[u8], bytes: &[u8]) -> bool {
     match field::judge(form, mark, fixed, bytes) {
-        FieldAnswer::Refused(number) => print_numbers(b"refused", number as usize, 0, 0),
+        FieldAnswer::Refused(number) => print_refusal(place::whole(number as usize)),
         FieldAnswer::Empty => print_value(b"empty", b""),
         FieldAnswer::Number(n) => print_whole(n),
         FieldAnswer::Truth(truth) => print_truth(truth),
@@ -45,15 +41,15 @@ fn field_line(form: FieldType, mark: Mark, fixed: &[u8], bytes: &[u8]) -> bool {
 
 // The checksum of bytes.
 fn sum_line(bytes: &[u8]) -> bool {
-    print_numbers(b"ok", 0, checksum::of_bytes(bytes) as usize, 0)
+    print_numbers(b"ok", &[0, checksum::of_bytes(bytes) as usize, 0])
 }
 
 // The step of the flow table through kinds.
 fn step_line(flow: &[u8], kinds: &[u8]) -> bool {
     let mut follow = [0u8; 96];
     match flow::step(flow, kinds, &mut follow) {
-        StepAnswer::Refused(number) => print_numbers(b"refused", number as usize, 0, 0),
-        StepAnswer::Stopped(place) => print_numbers(b"stopped", 0, place, 0),
+        StepAnswer::Refused(number) => print_refusal(place::whole(number as usize)),
+        StepAnswer::Stopped(place) => print_numbers(b"stopped", &[0, place, 0]),
         StepAnswer::Through { count, complete } => print_follow(count, complete, &follow),
     }
 }
@@ -61,13 +57,12 @@ fn step_line(flow: &[u8], kinds: &[u8]) -> bool {
 // A result in the room: the line of what was done, then the bytes and a line feed; or a refusal.
 fn transfer_line(done: Transfer, room: &[u8]) -> bool {
     match done {
-        Transfer::Refused {
-            number,
-            record,
-            field,
-        } => print_transfer(b"refused", number, record, field, kept(room, 0)),
+        Transfer::Refused(r) => print_numbers(
+            b"refused",
+            &[r.number, r.record, r.field, r.place, kept(room, 0)],
+        ),
         Transfer::Done { records, bytes } => {
-            print_transfer(b"ok", 0, records, bytes, kept(room, bytes))
+            print_numbers(b"ok", &[0, records, bytes, 0, kept(room, bytes)])
                 && print(text::part(room, 0, bytes))
                 && print(b"\n")
         }
@@ -91,7 +86,7 @@ fn read_line(flow: &[u8], file: &[u8], room: &mut [u8]) -> bool {
 // Answers a case: what is asked, the flow that its header names, the fixed value and the body behind it, and room for a result.
 pub fn answer(ask: Ask, flow: &[u8], fixed: &[u8], body: &[u8], room: &mut [u8]) -> bool {
     match ask {
-        Ask::Judge => printing::print_verdict(judge::judge(flow, body)),
+        Ask::Judge => printing::print_judged(judge::judge(flow, body)),
         Ask::Value { record, field } => value_line(flow, record, field, body),
         Ask::Field { form, mark } => field_line(form, mark, fixed, body),
         Ask::Sum => sum_line(body),

@@ -12,23 +12,26 @@ step-requires c κs = search needs
 enum-known-number : tie.Need-enum-known-number
 enum-known-number c = search needs
 
-slice-aggregate-print-numbers : tie.Need-slice-aggregate-print-numbers
-slice-aggregate-print-numbers c = search needs
+cast-whole : tie.Need-cast-whole
+cast-whole c = search needs
 
-cast-print-numbers : tie.Need-cast-print-numbers
-cast-print-numbers c = search needs
+whole-requires : tie.Need-whole-requires
+whole-requires c κs = search needs
 
-print-numbers-requires : tie.Need-print-numbers-requires
-print-numbers-requires c κs = search needs
+print-refusal-requires : tie.Need-print-refusal-requires
+print-refusal-requires c κs = search needs
 
 enum-known-place : tie.Need-enum-known-place
 enum-known-place c = search needs
 
+slice-aggregate-print-numbers : tie.Need-slice-aggregate-print-numbers
+slice-aggregate-print-numbers c = search needs
+
 slice-aggregate-print-numbers-2 : tie.Need-slice-aggregate-print-numbers-2
 slice-aggregate-print-numbers-2 c = search needs
 
-print-numbers-requires-2 : tie.Need-print-numbers-requires-2
-print-numbers-requires-2 c κs = search needs
+print-numbers-requires : tie.Need-print-numbers-requires
+print-numbers-requires c κs = search needs
 
 enum-known-count : tie.Need-enum-known-count
 enum-known-count c = search needs
@@ -53,12 +56,13 @@ step-line-spec =
     (tie.spec
     step-requires
     enum-known-number
-    slice-aggregate-print-numbers
-    cast-print-numbers
-    print-numbers-requires
+    cast-whole
+    whole-requires
+    print-refusal-requires
     enum-known-place
+    slice-aggregate-print-numbers
     slice-aggregate-print-numbers-2
-    print-numbers-requires-2
+    print-numbers-requires
     enum-known-count
     print-follow-requires
     returns

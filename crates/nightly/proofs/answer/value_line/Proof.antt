@@ -10,14 +10,11 @@ use Rattle.nightly.proofs.answer.value_line.Tie as tie
 value-of-requires : tie.Need-value-of-requires
 value-of-requires c κs = search needs
 
-enum-known-number : tie.Need-enum-known-number
-enum-known-number c = search needs
+enum-known-r : tie.Need-enum-known-r
+enum-known-r c = search needs
 
-slice-aggregate-print-numbers : tie.Need-slice-aggregate-print-numbers
-slice-aggregate-print-numbers c = search needs
-
-print-numbers-requires : tie.Need-print-numbers-requires
-print-numbers-requires c κs = search needs
+print-refusal-requires : tie.Need-print-refusal-requires
+print-refusal-requires c κs = search needs
 
 enum-told : tie.Need-enum-told
 enum-told c = search needs
@@ -87,9 +84,8 @@ value-line-spec =
     tie.close
     (tie.spec
     value-of-requires
-    enum-known-number
-    slice-aggregate-print-numbers
-    print-numbers-requires
+    enum-known-r
+    print-refusal-requires
     enum-told
     slice-aggregate-print-value
     slice-aggregate-print-value-2
