@@ -1,5 +1,5 @@
--- Document 01's answers as four numbers in a lent array, for callers in C. Cell 0 is the refusal's number, 0 where nothing is refused;
--- of a refusal cell 1 is the record and cell 2 the field. A cell that says nothing is 0. Assumes nothing.
+-- The papers' answers as four numbers in a lent array, for callers in C. Cell 0 is the refusal's number, 0 where nothing is refused;
+-- of a refusal cell 1 is the record, cell 2 the field and cell 3 the byte place. A cell that says nothing is 0. Assumes nothing.
 use Prim.Native.Nat.{ℕ}
 use mathlib.Core.Path.{_≡_}
 use mathlib.Core.Bool.{Bool, cond}
@@ -17,19 +17,19 @@ use Rattle.sheet.specs.Sheets.{made, sheetOf}
 use Rattle.sheet.specs.Write as writing
 use Rattle.sheet.specs.Read as reading
 
--- a refusal: its number, record and field
-abbrev pub refusalCells : ℕ → ℕ → ℕ → List ℕ
-refusalCells number r f = number ∷ r ∷ f ∷ 0 ∷ []
+-- a refusal: its number, record, field and place
+abbrev pub refusalCells : ℕ → ℕ → ℕ → ℕ → List ℕ
+refusalCells number r f place = number ∷ r ∷ f ∷ place ∷ []
 
 -- judging a file: cell 1 is the number of records
 abbrev pub judgeCells : files.Reply → List ℕ
 judgeCells (files.accepted n) = 0 ∷ n ∷ 0 ∷ 0 ∷ []
-judgeCells (files.refused number r f) = refusalCells number r f
+judgeCells (files.refused number r f place) = refusalCells number r f place
 
 -- writing a file and reading to a sheet: cell 1 is the number of records, cell 2 the number of bytes written
 abbrev pub transferCells : writing.Reply → List ℕ
 transferCells (writing.done records bytes) = 0 ∷ records ∷ bytes ∷ 0 ∷ []
-transferCells (writing.refused number r f) = refusalCells number r f
+transferCells (writing.refused number r f place) = refusalCells number r f place
 
 -- a file written from a sheet: the cells, and every byte that was lent
 pub record WroteCells (name sheet cells old new : List ℕ) : Type 0 where
@@ -66,7 +66,7 @@ textCells from to = 0 ∷ 4 ∷ from ∷ to ∷ []
 
 -- the value of one field of a file: a text stands in the file
 abbrev pub valueCells : values.Reply → List ℕ
-valueCells (values.refused number r f) = refusalCells number r f
+valueCells (values.refused number r f place) = refusalCells number r f place
 valueCells values.empty = emptyCells
 valueCells (values.number z) = numberCells z
 valueCells (values.truth b) = truthCells b
@@ -74,7 +74,7 @@ valueCells (values.text from to bytes) = textCells from to
 
 -- judging one field's bytes: a text is all of them
 abbrev pub fieldCells : fields.Reply → List ℕ
-fieldCells (fields.refused number r f) = refusalCells number r f
+fieldCells (fields.refused number r f place) = refusalCells number r f place
 fieldCells fields.empty = emptyCells
 fieldCells (fields.number z) = numberCells z
 fieldCells (fields.truth b) = truthCells b
@@ -83,14 +83,14 @@ fieldCells (fields.text s) = textCells 0 (length s)
 -- judging one field's bytes by codes: 18 for a code that is none
 unfoldable pub fieldAsked : ℕ → ℕ → ℕ → ℕ → List ℕ → List ℕ → fields.Reply
 fieldAsked type p q mark bytes s =
-    must (leb type 7) (fields.refused 18 0 0)
-    (must (leb mark 2) (fields.refused 18 0 0)
+    must (leb type 7) (fields.refused 18 0 0 0)
+    (must (leb mark 2) (fields.refused 18 0 0 0)
     (fields.fieldJudged (typeCoded type p p q) (markCoded mark bytes) s))
 
 -- the step: cell 1 is the place where the list stopped, 0 where it went through; then cell 2 is how many kinds may follow, and cell 3
 -- says if the list is complete
 abbrev pub stepCells : steps.Reply → List ℕ
-stepCells (steps.refused number r f) = refusalCells number r f
+stepCells (steps.refused number r f place) = refusalCells number r f place
 stepCells (steps.stopped place) = 0 ∷ place ∷ 0 ∷ 0 ∷ []
 stepCells (steps.through count complete) = 0 ∷ 0 ∷ count ∷ flagOf complete ∷ []
 

@@ -2,7 +2,8 @@
 use field::FieldType;
 use field::Mark;
 use flow::StepAnswer;
-use judge::Verdict;
+use judge::Judged;
+use place::Refusal;
 use sheet::Transfer;
 use value::Value;
 ghost use mathlib.Core.Path.{_≡_};
@@ -18,24 +19,20 @@ ghost use Rattle.sheet.specs.Write.{paper as transferPaper};
 ghost use Rattle.value.specs.Value.{valued, paper as valuePaper};
 ghost use Rattle.screen.specs.Numbers.{refusalCells, judgeCells, transferCells, WroteCells, ReadCells, flagOf, numberCells, valueCells, fieldCells, fieldAsked, stepCells, Stepped};
 
-// A refusal's number, record and field.
-fn refusal_cells(number: usize, r: usize, f: usize) -> [u64; 4]
-    ensures { λ c. ⌜ c ≡ refusalCells number r f ⌝ }
+// A refusal's number, record, field and place.
+fn refusal_cells(r: Refusal) -> [u64; 4]
+    ensures { λ c. ⌜ c ≡ refusalCells (r .number) (r .record) (r .field) (r .place) ⌝ }
 {
-    [number as u64, r as u64, f as u64, 0]
+    [r.number as u64, r.record as u64, r.field as u64, r.place as u64]
 }
 
 // What is said of a file.
-fn judge_cells(v: Verdict) -> [u64; 4]
+fn judge_cells(v: Judged) -> [u64; 4]
     ensures { λ r. ⌜ r ≡ judgeCells (judgePaper v) ⌝ }
 {
     match v {
-        Verdict::Accepted(records) => [0, records as u64, 0, 0],
-        Verdict::Refused {
-            number,
-            record,
-            field,
-        } => refusal_cells(number, record, field),
+        Judged::Accepted(records) => [0, records as u64, 0, 0],
+        Judged::Refused(refusal) => refusal_cells(refusal),
     }
 }
 
@@ -53,11 +50,7 @@ fn transfer_cells(t: Transfer) -> [u64; 4]
 {
     match t {
         Transfer::Done { records, bytes } => [0, records as u64, bytes as u64, 0],
-        Transfer::Refused {
-            number,
-            record,
-            field,
-        } => refusal_cells(number, record, field),
+        Transfer::Refused(refusal) => refusal_cells(refusal),
     }
 }
 
@@ -99,11 +92,7 @@ fn value_cells(v: Value) -> [u64; 4]
     ensures { λ r. ⌜ ((f : List ℕ) → r ≡ valueCells (valuePaper f v)) ⌝ }
 {
     match v {
-        Value::Refused {
-            number,
-            record,
-            field,
-        } => refusal_cells(number, record, field),
+        Value::Refused(refusal) => refusal_cells(refusal),
         Value::Empty => [0, 1, 0, 0],
         Value::Number(z) => number_cells(z),
         Value::Truth(b) => [0, 3, flag(b), 0],
