@@ -13,6 +13,7 @@ use Rattle.field.specs.Judge.{filled, fieldAnswer, judgedAs, fieldJudged}
 use Rattle.field.specs.Keys.{keyOrder}
 use Rattle.text.specs.Order.{numberOrder, textOrder}
 use Rattle.number.specs.Order.{digitsOrder, wholeOrder}
+use Rattle.place.specs.Places.{fieldStart, placeAt}
 use Rattle.layout.specs.Layout.{among, find}
 use Rattle.flow.specs.Flows.{flowNumber}
 use Rattle.flow.specs.ByTable.{followersFrom}
@@ -22,11 +23,11 @@ use Rattle.fault.specs.Fields.{fieldFault, fieldsFault}
 use Rattle.fault.specs.Record.{placeFault, shapeFault, keyFault, footerFault, kindFault}
 use Rattle.judge.specs.Record.{lastKind, keyWith, keyBefore, fault}
 use Rattle.judge.specs.File.{checkedFrom, ended, judgedBy, verdict, judged}
-use Rattle.value.specs.Value.{isThere, placeOf, fieldValue, valueBy, valueIn, valued}
+use Rattle.value.specs.Value.{isThere, fieldValue, valueBy, valueIn, valued}
 use Rattle.sheet.specs.Sheets.{footer, made, barLine, butLast, sheetOf}
 use Rattle.sheet.specs.Write.{written}
 use Rattle.sheet.specs.Read.{readTo}
-use Rattle.answers.proofs.Cases.{copies, Case, given, expected, Right, both-right, behind}
+use Rattle.answers.proofs.Cases.{copies, Case, given, expected, Right, both-right, bytesBefore, behind}
 use Rattle.answers.proofs.Refusals.{refusals, neighbours}
 use Rattle.answers.proofs.Steps.{steps}
 use Rattle.answers.proofs.Limits.{limits, limits-right}
@@ -38,13 +39,14 @@ use Rattle.answers.proofs.P0134.{p0134}
 use Rattle.answers.proofs.P0138.{p0138}
 use Rattle.answers.proofs.P0164.{p0164}
 use Rattle.answers.proofs.SameDate.{sameDate}
+use Rattle.answers.proofs.PointAt.{pointAt}
 
 -- the cases that are computed; where they fail, fewer of them at a time show which
 unfoldable pub computed : List Case
-computed = refusals ++ neighbours ++ steps ++ p0012 ++ p0181 ++ p0133 ++ p0134 ++ p0138 ++ p0164 ++ sameDate
+computed = refusals ++ neighbours ++ steps ++ p0012 ++ p0181 ++ p0133 ++ p0134 ++ p0138 ++ p0164 ++ sameDate ++ pointAt
 
 computed-right : Right computed
-unfolding computed refusals neighbours steps p0012 p0181 p0133 p0134 p0138 p0164 sameDate copies given expected behind joined onto records fields field extent turned holds words addRecord checksum checksumOf minus unsigned plain intForm intValue decForm decValue spelled decimalIn decimal leap daysIn isDay isDate isTime textForm bolForm periodRange form range valueOf widthRight filled fieldAnswer judgedAs fieldJudged keyOrder numberOrder textOrder digitsOrder wholeOrder among find flowNumber isDigit isText fieldFault fieldsFault lastKind keyWith keyBefore placeFault shapeFault keyFault footerFault kindFault fault checkedFrom ended judgedBy verdict judged isThere placeOf fieldValue valueBy valueIn valued footer made barLine butLast sheetOf written readTo kindsIn followersFrom stepped
+unfolding computed refusals neighbours steps p0012 p0181 p0133 p0134 p0138 p0164 sameDate pointAt copies given expected bytesBefore behind joined onto records fields field extent turned holds words addRecord checksum checksumOf minus unsigned plain intForm intValue decForm decValue spelled decimalIn decimal leap daysIn isDay isDate isTime textForm bolForm periodRange form range valueOf widthRight filled fieldAnswer judgedAs fieldJudged keyOrder numberOrder textOrder digitsOrder wholeOrder among find flowNumber isDigit isText fieldFault fieldsFault lastKind keyWith keyBefore placeFault shapeFault keyFault footerFault kindFault fault checkedFrom ended judgedBy verdict fieldStart placeAt judged isThere fieldValue valueBy valueIn valued footer made barLine butLast sheetOf written readTo kindsIn followersFrom stepped
 computed-right = refl
 
 unfoldable pub table : List Case

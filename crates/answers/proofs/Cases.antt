@@ -1,8 +1,10 @@
 -- A case of the papers: a call of a public part, and what they answer. Assumes nothing.
-use Prim.Native.Nat.{ℕ, zero, suc}
+use Prim.Native.Nat.{ℕ, zero, suc, _+_}
 use Prim.Native.String.{String}
 use mathlib.Core.Path.{_≡_, refl, sym, ap, _∙_}
+use mathlib.Core.Bool.{cond}
 use mathlib.Core.List.{List, [], _∷_, _++_, map, map-append}
+use lib.Dec.{eqb}
 use lib.ListN.{length}
 use Rattle.text.specs.Characters.{bytes}
 use Rattle.checksum.specs.Checksum.{checksumOf}
@@ -102,7 +104,15 @@ both-right a b p q = map-append given a b ∙ (λ i. p i ++ q i) ∙ sym (map-ap
 pub data Bad : Type 0 where
   bad : String → ℕ → ℕ → Bad
 
+-- how many bytes of a record stand before its field k: those up to the bar in front of it, and none before field 0 and field 1
+unfoldable pub bytesBefore : ℕ → List ℕ → ℕ
+bytesBefore k [] = 0
+bytesBefore zero (b ∷ s) = 0
+bytesBefore (suc zero) (b ∷ s) = 0
+bytesBefore (suc (suc k)) (b ∷ s) = suc (cond (eqb b 0x7C) (bytesBefore (suc k) s) (bytesBefore (suc (suc k)) s))
+
 -- each of some bad records, judged as record n behind the same right records
 unfoldable pub behind : String → List String → ℕ → List Bad → List Case
 behind flow before n [] = []
-behind flow before n (bad r number f ∷ rs) = judging flow (lines (before ++ r ∷ [])) (refused number n f) ∷ behind flow before n rs
+behind flow before n (bad r number f ∷ rs) =
+    judging flow (lines (before ++ r ∷ [])) (refused number n f (length (lines before) + bytesBefore f (bytes r))) ∷ behind flow before n rs

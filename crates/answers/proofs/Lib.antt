@@ -10,4 +10,5 @@ pub mod P0134
 pub mod P0138
 pub mod P0164
 pub mod SameDate
+pub mod PointAt
 pub mod Answers

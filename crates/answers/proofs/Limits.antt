@@ -1,10 +1,15 @@
 -- Files and sheets of just their limit and one byte more (document 01, refusal 2), with its neighbours 1, 3 and 16. Lists so long are
 -- not computed: only their length is used, and a law gives it. Assumes nothing.
-use Prim.Native.Nat.{ℕ}
+use Prim.Native.Nat.{ℕ, suc}
 use mathlib.Core.Path.{_≡_, refl}
+use mathlib.Core.Bool.{true}
 use mathlib.Core.List.{List, [], _∷_}
+use native.Mathlib.Omega.{arith}
+use lib.Dec.{leb}
 use lib.ListN.{length}
-use Rattle.record.specs.Records.{onto, records, fields, field, holds}
+use borrow.Author.Tests.{le-leb}
+use Rattle.record.specs.Records.{onto, records, fields, field, extent, holds}
+use Rattle.place.specs.Places.{fieldStart, placeAt}
 use Rattle.layout.specs.Layout.{find}
 use Rattle.flow.specs.Flows.{flowNumber}
 use Rattle.fault.specs.Record.{placeFault, kindFault}
@@ -22,20 +27,24 @@ use Rattle.answers.proofs.Cases.{copies, copies-length, Case, judging, 
 unfoldable pub limitsOf : List ℕ → List ℕ → List ℕ → List ℕ → List ℕ → List ℕ → List Case
 limitsOf feeds letters rest sheetFeeds bars sheetRest =
     -- 2 file or sheet over its limit
-    judging "P0138001" feeds (refused 2 0 0)
-    ∷ reading "P0138001" feeds [] (ofSheet.refused 2 0 0) []
-    ∷ asking "P0138001" feeds 1 1 (ofValue.refused 2 0 0)
-    ∷ writing "P0138001" sheetFeeds [] (ofSheet.refused 2 0 0) []
+    judging "P0138001" feeds (refused 2 0 0 0)
+    ∷ reading "P0138001" feeds [] (ofSheet.refused 2 0 0 0) []
+    ∷ asking "P0138001" feeds 1 1 (ofValue.refused 2 0 0 0)
+    ∷ writing "P0138001" sheetFeeds [] (ofSheet.refused 2 0 0 0) []
     -- a file of 1,048,576 bytes is not over its limit, nor is a sheet of 1,048,000
-    ∷ judging "P0138001" (0x0A ∷ rest) (refused 4 1 1)
-    ∷ writing "P0138001" (0x7C ∷ 0x0A ∷ sheetRest) [] (ofSheet.refused 16 1 0) []
+    ∷ judging "P0138001" (0x0A ∷ rest) (refused 4 1 1 0)
+    ∷ writing "P0138001" (0x7C ∷ 0x0A ∷ sheetRest) [] (ofSheet.refused 16 1 0 0) []
     -- 1 and 2
-    ∷ judging "P0138002" feeds (refused 1 0 0)
-    ∷ writing "P0138002" sheetFeeds [] (ofSheet.refused 1 0 0) []
+    ∷ judging "P0138002" feeds (refused 1 0 0 0)
+    ∷ writing "P0138002" sheetFeeds [] (ofSheet.refused 1 0 0 0) []
     -- 2 and 3, in the writer 2 and 16
-    ∷ judging "P0138001" letters (refused 2 0 0)
-    ∷ writing "P0138001" bars [] (ofSheet.refused 2 0 0) []
+    ∷ judging "P0138001" letters (refused 2 0 0 0)
+    ∷ writing "P0138001" bars [] (ofSheet.refused 2 0 0 0) []
     ∷ []
+
+-- a list with an element has a first one
+one-at-least : (n : ℕ) → leb 1 (suc n) ≡ true
+one-at-least n = le-leb 1 (suc n) (omega arith)
 
 module _ (feeds letters rest sheetFeeds bars sheetRest : List ℕ) where
   by-length :
@@ -46,14 +55,14 @@ module _ (feeds letters rest sheetFeeds bars sheetRest : List ℕ) where
       → length bars ≡ 1048001
       → length sheetRest ≡ 1047998
       → Right (limitsOf feeds letters rest sheetFeeds bars sheetRest)
-  unfolding given expected limitsOf onto records fields field holds find flowNumber placeFault kindFault fault checkedFrom judgedBy verdict judged valueIn valued barLine written readTo
-  by-length a b c d e f = rw (a, b, c, d, e, f) refl
+  unfolding given expected limitsOf onto records fields field extent holds fieldStart placeAt find flowNumber placeFault kindFault fault checkedFrom judgedBy verdict judged valueIn valued barLine written readTo
+  by-length a b c d e f = rw (a, b, c, d, e, f, one-at-least (length (records rest)), one-at-least (length (records sheetRest))) refl
 
 -- with line feeds, letters and bars
 unfoldable pub limits : List Case
 limits = limitsOf (copies 1048577 0x0A) (copies 1048577 0x41) (copies 1048575 0x0A) (copies 1048001 0x0A) (copies 1048001 0x7C) (copies 1047998 0x0A)
 
--- each is answered as document 01 says
+-- each is answered as the papers say
 pub limits-right : Right limits
 unfolding limits
 limits-right =

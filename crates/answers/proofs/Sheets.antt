@@ -1,5 +1,5 @@
 -- Sheets whose made file is judged: taken, refused as the reader would refuse the made file, or too long for the lent output
--- (document 01, "Sheets"). The digits of a footer are not computed but read back from the text. Assumes nothing.
+-- (document 01, "Sheets"; document 02, C-12). The digits of a footer are not computed but read back from the text. Assumes nothing.
 use Prim.Native.Nat.{ℕ, _+_}
 use Prim.Native.String.{String}
 use mathlib.Core.Path.{_≡_, refl, sym}
@@ -8,7 +8,8 @@ use mathlib.Core.List.{List, [], _∷_, _++_}
 use lib.Dec.{leb}
 use lib.ListN.{length}
 use Rattle.text.specs.Characters.{bytes, isDigit, isText}
-use Rattle.record.specs.Records.{onto, records, fields, field, turned, holds}
+use Rattle.record.specs.Records.{onto, records, fields, field, extent, turned, holds}
+use Rattle.place.specs.Places.{fieldStart, placeAt}
 use Rattle.checksum.specs.Checksum.{words, addRecord, checksum, checksumOf}
 use Rattle.number.specs.Numbers.{minus, unsigned, plain, intForm, intValue, decForm, decValue, spelled}
 use Rattle.number.specs.Calendar.{leap, daysIn, isDay, isDate, isTime}
@@ -20,7 +21,7 @@ use Rattle.flow.specs.Flows.{flowNumber, held}
 use Rattle.fault.specs.Fields.{fieldFault, fieldsFault}
 use Rattle.fault.specs.Record.{placeFault, shapeFault, keyFault, footerFault, kindFault}
 use Rattle.judge.specs.Record.{lastKind, keyWith, keyBefore, fault}
-use Rattle.judge.specs.File.{checkedFrom, ended, judgedBy, verdict}
+use Rattle.judge.specs.File.{checkedFrom, ended, judgedBy, verdict, withPlace}
 use Rattle.judge.specs.declared.Verdict.{Verdict}
 use Rattle.judge.specs.declared.Verdict.the-variants.{Accepted, Refused}
 use Rattle.sheet.specs.Sheets.{tab, footer, made}
@@ -77,12 +78,12 @@ sheets =
     writing "P0138001" sheet (copies 88 120) (done 4 88) example
     ∷ writing "P0138001" sheet (copies 90 120) (done 4 88) (example ++ bytes "xx")
     -- 17 output too short for the result
-    ∷ writing "P0138001" sheet (copies 87 120) (refused 17 0 0) (copies 87 120)
-    -- the reader's 10, and 10 and 17
-    ∷ writing "P0138001" fixedSheet (copies 88 120) (refused 10 2 2) (copies 88 120)
-    ∷ writing "P0138001" fixedSheet [] (refused 10 2 2) []
-    -- the reader's 5: the made footer stands behind a ZPT
-    ∷ writing "P0138001" footedSheet (copies 110 120) (refused 5 5 1) (copies 110 120)
+    ∷ writing "P0138001" sheet (copies 87 120) (refused 17 0 0 0) (copies 87 120)
+    -- the reader's 10, and 10 and 17; the place is the field's in the sheet
+    ∷ writing "P0138001" fixedSheet (copies 88 120) (refused 10 2 2 46) (copies 88 120)
+    ∷ writing "P0138001" fixedSheet [] (refused 10 2 2 46) []
+    -- the reader's 5: the made footer stands behind a ZPT; its place is the sheet's length
+    ∷ writing "P0138001" footedSheet (copies 110 120) (refused 5 5 1 88) (copies 110 120)
     ∷ []
 
 -- a sheet that is none of 1, 2, 16 and 15 is judged as its made file
@@ -94,7 +95,7 @@ module _ (name sheet f old : List ℕ) (v : Verdict) where
       → linesEnded sheet ≡ true
       → made sheet ≡ f
       → verdict name f ≡ v
-      → transferred (written name sheet (length old)) (made sheet) old ≡ transferred (asJudged v (fitted (length old) f)) f old
+      → transferred (written name sheet (length old)) (made sheet) old ≡ transferred (asJudged (withPlace tab sheet v) (fitted (length old) f)) f old
   unfolding written
   as-made a b c d e j = rw (a, b, c, d, e, j) refl
 
@@ -111,9 +112,9 @@ footed-judged : verdict (bytes "P0138001") footedFile ≡ Refused 5 5 1
 unfolding copies onto records fields field turned words addRecord checksum minus unsigned plain intForm intValue decForm decValue spelled leap daysIn isDay isDate isTime textForm form range valueOf filled fieldAnswer among find flowNumber isDigit isText fieldFault fieldsFault lastKind keyWith keyBefore placeFault shapeFault keyFault footerFault kindFault fault checkedFrom ended judgedBy verdict
 footed-judged = refl
 
--- each is answered as document 01 says
+-- each is answered as the papers say
 pub sheets-right : Right sheets
-unfolding given expected sheets copies flowNumber holds
+unfolding given expected sheets copies flowNumber holds onto records fields extent fieldStart placeAt
 sheets-right =
     λ i.
     as-made (bytes "P0138001") sheet example (copies 88 120) (Accepted 4) refl refl refl refl example-made example-judged i

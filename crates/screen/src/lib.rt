@@ -23,7 +23,12 @@ ghost use Rattle.screen.specs.Numbers.{refusalCells, judgeCells, transfe
 fn refusal_cells(r: Refusal) -> [u64; 4]
     ensures { λ c. ⌜ c ≡ refusalCells (r .number) (r .record) (r .field) (r .place) ⌝ }
 {
-    [r.number as u64, r.record as u64, r.field as u64, r.place as u64]
+    [
+        r.number as u64,
+        r.record as u64,
+        r.field as u64,
+        r.place as u64,
+    ]
 }
 
 // What is said of a file.

@@ -8,6 +8,7 @@ pub mod Putting
 pub mod Numerals
 pub mod FooterPut
 pub mod Starts
+pub mod SamePlace
 pub mod Verdicts
 pub mod Handing
 pub mod TabFree
