@@ -61,8 +61,7 @@ static void put_bytes(const screen_byte *bytes, screen_size len) {
 /* Prints a refusal and answers 1, where there is one. */
 static int refused(void) {
     if (answer[0] == 0) return 0;
-    printf("refused\t%lu\t%lu\t%lu", answer[0], answer[1], answer[2]);
-    rest_is_zero(3);
+    printf("refused\t%lu\t%lu\t%lu\t%lu", answer[0], answer[1], answer[2], answer[3]);
     return 1;
 }
 
@@ -84,7 +83,7 @@ static void judge(struct word flow, screen_size len) {
     lend(0);
     screen_judge((screen_byte *)flow.at, flow.len, body, len, answer);
     if (refused()) return;
-    printf("ok\t0\t%lu\t0", answer[1]);
+    printf("ok\t0\t%lu\t0\t0", answer[1]);
     rest_is_zero(2);
 }
 
@@ -96,7 +95,7 @@ static void transfer(int write, struct word flow, screen_size size, screen_size 
         printf("\t%d", kept(0, size));
         return;
     }
-    printf("ok\t0\t%lu\t%lu\t%d", answer[1], answer[2], kept(answer[2], size));
+    printf("ok\t0\t%lu\t%lu\t0\t%d", answer[1], answer[2], kept(answer[2], size));
     rest_is_zero(3);
     putchar('\n');
     put_bytes(room, answer[2]);

@@ -12,7 +12,7 @@
    fields count from 1. An answer is four cells. All four are written, whatever they held, and a cell that says nothing is 0:
 
      cell          0                1           2                3
-     any refusal   number, 1 to 18  record or 0 field or 0       0
+     any refusal   number, 1 to 18  record or 0 field or 0       byte place
      judge         0                records     0                0
      write, read   0                records     bytes written    0
      value, field  0                1: empty    0                0
@@ -21,6 +21,10 @@
                    0                4: text     where it starts  where it ends, both counted from 0, the end not in it
      step          0                0           kinds to follow  1 if the list is complete, else 0
                    0                place       0                0; the kind, counted from 1, where the list stopped
+
+   The byte place of a refusal counts from 0, in the file, or for screen_write in the sheet. It is the first byte of the field;
+   of the record where the field is 0 or not there; 0 where the record is 0; and the length where the record is not there, as
+   with 14, with 18 past the last record, and with the footer that screen_write adds.
 
    Cell 0 tells a refusal from all else:
       1 no such flow              7 required field empty           13 checksum wrong
