@@ -36,8 +36,8 @@ static size_t number_of(struct bytes w) {
 static byte pattern(size_t place) { return place * 167 + 13; }
 
 static void put_line(struct peer_answer a) {
-    if (a.refused) printf("refused\t%d\t%zu\t%zu\n", a.number, a.record, a.field);
-    else printf("ok\t0\t%zu\t0\n", a.record);
+    if (a.refused) printf("refused\t%d\t%zu\t%zu\t%zu\n", a.number, a.record, a.field, a.place);
+    else printf("ok\t0\t%zu\t0\t0\n", a.record);
 }
 
 typedef struct peer_answer transfer(const byte *, size_t, const byte *, size_t, byte *, size_t);
@@ -49,10 +49,10 @@ static void put_transfer(transfer *part, struct bytes flow, size_t size, struct 
     struct peer_answer a = part(flow.at, flow.len, body.at, body.len, room, size);
     for (size_t i = a.refused ? 0 : a.bytes; i < size; i++) kept &= room[i] == pattern(i);
     if (a.refused) {
-        printf("refused\t%d\t%zu\t%zu\t%d\n", a.number, a.record, a.field, kept);
+        printf("refused\t%d\t%zu\t%zu\t%zu\t%d\n", a.number, a.record, a.field, a.place, kept);
         return;
     }
-    printf("ok\t0\t%zu\t%zu\t%d\n", a.record, a.bytes, kept);
+    printf("ok\t0\t%zu\t%zu\t0\t%d\n", a.record, a.bytes, kept);
     for (size_t i = 0; i < a.bytes; i++) putchar(room[i]);
     putchar('\n');
 }

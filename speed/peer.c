@@ -194,24 +194,24 @@ static uint32_t add_record(uint32_t sum, const unsigned char *s, size_t n, unsig
 
 struct state { size_t count; int last; uint32_t sum; size_t seen[7]; const unsigned char *key[7]; size_t key_len[7]; };
 
-static int refuse(struct peer_answer *a, int number, size_t record, size_t field) {
-    *a = (struct peer_answer){ .refused = 1, .number = number, .record = record, .field = field };
+static int refuse(struct peer_answer *a, int number, size_t record, size_t field, size_t place) {
+    *a = (struct peer_answer){ .refused = 1, .number = number, .record = record, .field = field, .place = place };
     return 0;
 }
 
-// One record: 3 to 13, or the state moved on.
+// One record: 3 to 13, their place counted from the record's first byte, or the state moved on.
 static int check_record(const struct flow *f, struct state *st, const unsigned char *s, size_t n, unsigned char sep, struct peer_answer *a) {
     size_t at = st->count + 1, bars = 0, name = 0;
     int k;
-    if (n > 512) return refuse(a, 3, at, 0);
+    if (n > 512) return refuse(a, 3, at, 0, 0);
     while (name < n && s[name] != sep) name++;
     for (k = f->kinds; k > 0; k--)
         if (name == 3 && !memcmp(f->kind[k - 1].name, s, 3)) break;
-    if (k == 0) return refuse(a, 4, at, 1);
-    if (!((st->last ? f->kind[st->last - 1].follow : f->first) & BIT(k))) return refuse(a, 5, at, 1);
+    if (k == 0) return refuse(a, 4, at, 1, 0);
+    if (!((st->last ? f->kind[st->last - 1].follow : f->first) & BIT(k))) return refuse(a, 5, at, 1, 0);
     const struct kind *kind = &f->kind[k - 1];
     for (size_t i = name; i < n; i++) bars += s[i] == sep;
-    if (bars != (size_t)kind->fields) return refuse(a, 6, at, 0);
+    if (bars != (size_t)kind->fields) return refuse(a, 6, at, 0, 0);
     const unsigned char *field[8] = { 0 };
     size_t len[8] = { 0 }, from = name + 1;
     for (int i = 0; i < kind->fields; i++) {
@@ -219,20 +219,20 @@ static int check_record(const struct flow *f, struct state *st, const unsigned c
         while (to < n && s[to] != sep) to++;
         field[i] = s + from, len[i] = to - from;
         int fault = check_field(&kind->rule[i], field[i], len[i]);
-        if (fault) return refuse(a, fault, at, i + 2);
+        if (fault) return refuse(a, fault, at, i + 2, from);
         from = to + 1;
     }
     if (kind->key) {
         int i = kind->key - 2;
         if (st->seen[k] > st->seen[kind->head]) {
             int c = compare_keys(kind->rule[i].type, field[i], len[i], st->key[k], st->key_len[k]);
-            if (c < 0 || (c == 0 && kind->order == STRICT)) return refuse(a, 11, at, kind->key);
+            if (c < 0 || (c == 0 && kind->order == STRICT)) return refuse(a, 11, at, kind->key, field[i] - s);
         }
         st->key[k] = field[i], st->key_len[k] = len[i];
     }
     if (k == f->kinds) {
-        if (field[0][0] == '-' || number(field[0], len[0]) != at) return refuse(a, 12, at, 2);
-        if (field[1][0] == '-' || number(field[1], len[1]) != st->sum) return refuse(a, 13, at, 3);
+        if (field[0][0] == '-' || number(field[0], len[0]) != at) return refuse(a, 12, at, 2, field[0] - s);
+        if (field[1][0] == '-' || number(field[1], len[1]) != st->sum) return refuse(a, 13, at, 3, field[1] - s);
     }
     st->seen[k] = at, st->count = at, st->last = k, st->sum = add_record(st->sum, s, n, sep);
     return 1;
@@ -248,21 +248,30 @@ static int check_records(const struct flow *f, struct state *st, const unsigned 
     for (size_t at = 0; at < n;) {
         const unsigned char *feed = find_feed(s + at, n - at);
         size_t len = feed ? (size_t)(feed - s) - at : n - at;
-        if (!check_record(f, st, s + at, len, sep, a)) return 0;
+        if (!check_record(f, st, s + at, len, sep, a)) {
+            a->place += at;
+            return 0;
+        }
         at += len + 1;
     }
     return 1;
+}
+
+// Where the last line of some bytes starts.
+static size_t last_line(const unsigned char *s, size_t n) {
+    while (n > 0 && s[n - 1] != '\n') n--;
+    return n;
 }
 
 struct peer_answer peer_judge(const unsigned char *name, size_t name_len, const unsigned char *s, size_t n) {
     struct peer_answer a = { 0 };
     struct state st = { 0 };
     const struct flow *f = find_flow(name, name_len);
-    if (!f) return refuse(&a, 1, 0, 0), a;
-    if (n > 1048576) return refuse(&a, 2, 0, 0), a;
+    if (!f) return refuse(&a, 1, 0, 0, 0), a;
+    if (n > 1048576) return refuse(&a, 2, 0, 0, 0), a;
     if (!check_records(f, &st, s, n, '|', &a)) return a;
-    if (st.last != f->kinds) return refuse(&a, 14, st.count + 1, 0), a;
-    if (f->feed && s[n - 1] != '\n') return refuse(&a, 15, st.count, 0), a;
+    if (st.last != f->kinds) return refuse(&a, 14, st.count + 1, 0, n), a;
+    if (f->feed && s[n - 1] != '\n') return refuse(&a, 15, st.count, 0, last_line(s, n)), a;
     a.record = st.count;
     return a;
 }
@@ -280,24 +289,24 @@ struct peer_answer peer_write(const unsigned char *name, size_t name_len, const 
     struct state st = { 0 };
     unsigned char footer[32] = "ZPT|";
     const struct flow *f = find_flow(name, name_len);
-    if (!f) return refuse(&a, 1, 0, 0), a;
-    if (n > 1048000) return refuse(&a, 2, 0, 0), a;
+    if (!f) return refuse(&a, 1, 0, 0, 0), a;
+    if (n > 1048000) return refuse(&a, 2, 0, 0, 0), a;
     const unsigned char *bar = memchr(s, '|', n);
     size_t line = 1;
     for (const unsigned char *p = s; bar && p < bar; p++) line += *p == '\n';
-    if (bar) return refuse(&a, 16, line, 0), a;
+    if (bar) return refuse(&a, 16, line, 0, last_line(s, bar - s)), a;
     if (n && s[n - 1] != '\n') {
         for (size_t i = 0; i < n; i++) line += s[i] == '\n';
-        return refuse(&a, 15, line, 0), a;
+        return refuse(&a, 15, line, 0, last_line(s, n)), a;
     }
     if (!check_records(f, &st, s, n, '\t', &a)) return a;
-    if (!((st.last ? f->kind[st.last - 1].follow : f->first) & BIT(f->kinds))) return refuse(&a, 5, st.count + 1, 1), a;
+    if (!((st.last ? f->kind[st.last - 1].follow : f->first) & BIT(f->kinds))) return refuse(&a, 5, st.count + 1, 1, n), a;
     size_t foot = 4;
     foot += put_number(footer + foot, st.count + 1);
     footer[foot++] = '|';
     foot += put_number(footer + foot, st.sum);
     footer[foot++] = '\n';
-    if (n + foot > room) return refuse(&a, 17, 0, 0), a;
+    if (n + foot > room) return refuse(&a, 17, 0, 0, 0), a;
     for (size_t i = 0; i < n; i++) out[i] = s[i] == '\t' ? '|' : s[i];
     memcpy(out + n, footer, foot);
     a.record = st.count + 1, a.bytes = n + foot;
@@ -307,9 +316,8 @@ struct peer_answer peer_write(const unsigned char *name, size_t name_len, const 
 struct peer_answer peer_read(const unsigned char *name, size_t name_len, const unsigned char *s, size_t n, unsigned char *out, size_t room) {
     struct peer_answer a = peer_judge(name, name_len, s, n);
     if (a.refused) return a;
-    size_t end = n - (s[n - 1] == '\n');
-    while (end > 0 && s[end - 1] != '\n') end--;
-    if (end > room) return refuse(&a, 17, 0, 0), a;
+    size_t end = last_line(s, n - (s[n - 1] == '\n'));
+    if (end > room) return refuse(&a, 17, 0, 0, 0), a;
     for (size_t i = 0; i < end; i++) out[i] = s[i] == '|' ? '\t' : s[i];
     a.bytes = end;
     return a;

@@ -1,8 +1,8 @@
 // The screen's answers in plain C: what the Rattle library is timed against.
 #include "c.h"
 
-// refused: number, record and field; else record is the number of records, and bytes what was written.
-struct peer_answer { int refused, number; size_t record, field, bytes; };
+// refused: number, record, field and place; else record is the number of records, and bytes what was written.
+struct peer_answer { int refused, number; size_t record, field, place, bytes; };
 
 struct peer_answer peer_judge(const unsigned char *name, size_t name_len, const unsigned char *s, size_t n);
 struct peer_answer peer_write(const unsigned char *name, size_t name_len, const unsigned char *s, size_t n, unsigned char *out, size_t room);

@@ -1,5 +1,6 @@
 //! The answer to a case, as `nightly` prints it: words parted by tabs, a line a case.
-//! A line has four words (five for write and read); a last word of no bytes keeps its tab.
+//! A refusal has five words, the place last, and so has judge's `ok`; lines of write and read have
+//! a sixth. All other lines have four; a last word of no bytes keeps its tab.
 
 use crate::bytes::{checksum, records_of, LINE_FEED};
 use crate::field::{judge_field, Value};
@@ -16,8 +17,8 @@ pub const BAD_HEADER: &[u8] = b"bad header\n";
 pub fn answer(ask: &Ask) -> Vec<u8> {
     match ask {
         Ask::Judge { flow, file } => match judge(flow, file) {
-            Ok(records) => line(&format!("ok\t0\t{}\t0", records)),
-            Err(refusal) => refused(refusal),
+            Ok(records) => line(&format!("ok\t0\t{}\t0\t0", records)),
+            Err(refusal) => line(&refused(refusal)),
         },
         Ask::Value { flow, record, field, file } => value_line(value(flow, file, *record, *field)),
         Ask::Field { form, mark, bytes } => {
@@ -34,9 +35,10 @@ fn line(words: &str) -> Vec<u8> {
     format!("{}\n", words).into_bytes()
 }
 
-fn refused(refusal: Refusal) -> Vec<u8> {
-    let Refusal { number, record, field } = refusal;
-    line(&format!("refused\t{}\t{}\t{}", number, record, field))
+/// The words of a refusal.
+fn refused(refusal: Refusal) -> String {
+    let Refusal { number, record, field, place } = refusal;
+    format!("refused\t{}\t{}\t{}\t{}", number, record, field, place)
 }
 
 fn value_line(value: Result<Value, Refusal>) -> Vec<u8> {
@@ -45,7 +47,7 @@ fn value_line(value: Result<Value, Refusal>) -> Vec<u8> {
         Ok(Value::Number(number)) => line(&format!("ok\t0\tnumber\t{}", number)),
         Ok(Value::Truth(truth)) => line(if truth { "ok\t0\ttruth\tT" } else { "ok\t0\ttruth\tF" }),
         Ok(Value::Text(text)) => [b"ok\t0\ttext\t", text, b"\n"].concat(),
-        Err(refusal) => refused(refusal),
+        Err(refusal) => line(&refused(refusal)),
     }
 }
 
@@ -56,7 +58,7 @@ fn step_line(step: Result<Step, Refusal>) -> Vec<u8> {
             let state: &[u8] = if complete { b"complete" } else { b"open" };
             [b"ok\t0\t", state, b"\t", &follow.concat(), b"\n"].concat()
         }
-        Err(refusal) => refused(refusal),
+        Err(refusal) => line(&refused(refusal)),
     }
 }
 
@@ -70,13 +72,11 @@ fn in_room(size: usize, put: impl FnOnce(&mut [u8]) -> Result<Done, Refusal>) ->
     let kept = if kept { 1 } else { 0 };
     match done {
         Ok(Done { records, bytes }) => {
-            let mut answer = line(&format!("ok\t0\t{}\t{}\t{}", records, bytes, kept));
+            let mut answer = line(&format!("ok\t0\t{}\t{}\t0\t{}", records, bytes, kept));
             answer.extend(&room[..bytes]);
             answer.push(LINE_FEED);
             answer
         }
-        Err(Refusal { number, record, field }) => {
-            line(&format!("refused\t{}\t{}\t{}\t{}", number, record, field, kept))
-        }
+        Err(refusal) => line(&format!("{}\t{}", refused(refusal), kept)),
     }
 }

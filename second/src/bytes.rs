@@ -1,4 +1,4 @@
-//! Bytes, records and fields: how a file is cut, and the checksum of its records.
+//! Bytes, records and fields: how a file is cut, where its parts stand, and the checksum of its records.
 
 pub const LINE_FEED: u8 = b'\n';
 pub const BAR: u8 = b'|';
@@ -30,6 +30,12 @@ pub fn fields_of(record: &[u8]) -> Vec<&[u8]> {
 /// The kind of a record: the whole of its first field, of whatever length.
 pub fn kind_of(record: &[u8]) -> &[u8] {
     record.split(|&byte| byte == BAR).next().unwrap_or(record)
+}
+
+/// The place, from 0, where a part of some bytes starts. Records and fields are parts of the file
+/// itself and no copies, so their own addresses tell; empty ones have theirs too.
+pub fn place_in(whole: &[u8], part: &[u8]) -> usize {
+    part.as_ptr() as usize - whole.as_ptr() as usize
 }
 
 /// The checksum of records: each cut into pieces of four on its own, so that no piece

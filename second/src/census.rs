@@ -3,8 +3,10 @@
 use crate::answer::answer;
 use crate::stream::{cases_of, BadHeader, CASE_KINDS};
 
-/// The columns: taken, stopped (step), then the refusals 1 to 18.
-const COLUMNS: usize = 20;
+/// The highest number of a refusal; a request that brings a new one raises it.
+const REFUSALS: usize = 18;
+/// The columns: taken, stopped (step), then the refusals.
+const COLUMNS: usize = 2 + REFUSALS;
 
 /// Cases by kind and by answer.
 pub struct Census {
@@ -49,13 +51,13 @@ impl Census {
     /// The refusal numbers that no case gave.
     pub fn not_reached(&self) -> Vec<usize> {
         let reached = |number: usize| CASE_KINDS.iter().any(|kind| self.refused(kind, number) > 0);
-        (1..=18).filter(|&number| !reached(number)).collect()
+        (1..=REFUSALS).filter(|&number| !reached(number)).collect()
     }
 
     /// The table, a row a kind of case, and a last line on the numbers reached.
     pub fn table(&self) -> String {
         let mut names = vec!["ok".to_string(), "stopped".to_string()];
-        names.extend((1..=18).map(|number| number.to_string()));
+        names.extend((1..=REFUSALS).map(|number| number.to_string()));
         let mut table = row("case", names.iter().map(String::as_str), "all");
         let mut sums = [0; COLUMNS];
         for (kind, counts) in CASE_KINDS.iter().zip(&self.counts) {
@@ -66,7 +68,7 @@ impl Census {
         let missing: Vec<String> = self.not_reached().iter().map(usize::to_string).collect();
         table
             + &match missing.is_empty() {
-                true => "refusals 1 to 18: each reached\n".to_string(),
+                true => format!("refusals 1 to {}: each reached\n", REFUSALS),
                 false => format!("refusals not reached: {}\n", missing.join(" ")),
             }
     }

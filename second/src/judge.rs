@@ -1,6 +1,6 @@
 //! A file judged for a flow, and the value of one of its fields.
 
-use crate::bytes::{checksum, fields_of, kind_of, records_of, LINE_FEED};
+use crate::bytes::{checksum, fields_of, kind_of, place_in, records_of, LINE_FEED};
 use crate::field::{judge_field, Type, Value};
 use crate::flows::{named, Flow, Key, Layout};
 use crate::grammar::Set;
@@ -23,26 +23,44 @@ pub fn judge(flow: &[u8], file: &[u8]) -> Result<usize, Refusal> {
     let records = records_of(file);
     let mut left = flow.grammar.clone();
     for count in 1..=records.len() {
-        left = judge_record(flow, &left, &records[..count])
-            .map_err(|(number, field)| Refusal::at(number, count, field))?;
+        left = judge_record(flow, &left, &records[..count]).map_err(|(number, field)| {
+            Refusal::at(number, count, field, place_in(file, part_named(records[count - 1], field)))
+        })?;
     }
     if !left.is_complete() {
-        return Err(Refusal::at(14, records.len() + 1, 0));
+        return Err(Refusal::at(14, records.len() + 1, 0, file.len()));
     }
     if flow.needs_last_line_feed && file.last() != Some(&LINE_FEED) {
-        return Err(Refusal::at(15, records.len(), 0));
+        return Err(Refusal::at(15, records.len(), 0, place_in(file, records[records.len() - 1])));
     }
     Ok(records.len())
+}
+
+/// The part of a record that a fault's field names: all of it where that is 0.
+fn part_named(record: &[u8], field: usize) -> &[u8] {
+    match field {
+        0 => record,
+        _ => fields_of(record)[field - 1],
+    }
 }
 
 /// The value of a field: the file's own refusals first, then 18 with the numbers as asked.
 pub fn value<'a>(flow: &[u8], file: &'a [u8], record: usize, field: usize) -> Result<Value<'a>, Refusal> {
     judge(flow, file)?;
     let found = find_field(flow, file, record, field);
-    found.ok_or_else(|| Refusal::at(18, record, field))
+    found.ok_or_else(|| Refusal::at(18, record, field, place_of_missing(file, record)))
 }
 
-/// A field of an accepted file, by its place; None where there is none.
+/// Where a missing field is pointed at: its record, or the file's end where that is missing too, or
+/// the file's start where record 0 was asked for.
+fn place_of_missing(file: &[u8], record: usize) -> usize {
+    match record.checked_sub(1) {
+        Some(before) => records_of(file).get(before).map_or(file.len(), |record| place_in(file, record)),
+        None => 0,
+    }
+}
+
+/// A field of an accepted file, by record and field; None where there is none.
 fn find_field<'a>(flow: &[u8], file: &'a [u8], record: usize, field: usize) -> Option<Value<'a>> {
     let fields = fields_of(records_of(file).get(record.checked_sub(1)?)?);
     let bytes = *fields.get(field.checked_sub(1)?)?;

@@ -1,6 +1,6 @@
 //! Sheets: a file made from a sheet, and a sheet read from a file.
 
-use crate::bytes::{checksum, records_of, BAR, LINE_FEED, TAB};
+use crate::bytes::{checksum, place_in, records_of, BAR, LINE_FEED, TAB};
 use crate::flows::named;
 use crate::judge::judge;
 use crate::refusal::Refusal;
@@ -23,15 +23,21 @@ pub fn write(flow: &[u8], sheet: &[u8], room: &mut [u8]) -> Result<Done, Refusal
         return Err(Refusal::whole(2));
     }
     let lines = records_of(sheet);
-    if let Some(place) = lines.iter().position(|line| line.contains(&BAR)) {
-        return Err(Refusal::at(16, place + 1, 0));
+    if let Some(before) = lines.iter().position(|line| line.contains(&BAR)) {
+        return Err(Refusal::at(16, before + 1, 0, place_in(sheet, lines[before])));
     }
     if !sheet.is_empty() && !sheet.ends_with(&[LINE_FEED]) {
-        return Err(Refusal::at(15, lines.len(), 0));
+        return Err(Refusal::at(15, lines.len(), 0, place_in(sheet, lines[lines.len() - 1])));
     }
     let file = made_file(sheet);
-    let records = judge(flow, &file)?;
+    let records = judge(flow, &file).map_err(|refusal| in_sheet(refusal, sheet))?;
     put(&file, records, room)
+}
+
+/// A refusal of the made file, pointing into the sheet. Byte for byte the file is the sheet, tabs
+/// turned to bars; what comes behind is the made footer, which points at the sheet's end.
+fn in_sheet(refusal: Refusal, sheet: &[u8]) -> Refusal {
+    Refusal { place: refusal.place.min(sheet.len()), ..refusal }
 }
 
 /// Reads the sheet of a file into the room. A refusal leaves the room as it was.

@@ -4,6 +4,7 @@ use second::bytes::{checksum, fields_of, is_text, kind_of, records_of};
 use second::cases::dice::Dice;
 use second::cases::draft::Draft;
 use second::cases::faults::{put_fault, spoil, Place, PLACES};
+use second::cases::footers::no_made_footer;
 use second::cases::values::TEXT;
 use second::cases::Generator;
 use second::census::census;
@@ -33,7 +34,7 @@ fn the_stream_of_seed_1_on_any_machine() {
     let sum = stream
         .iter()
         .fold(0xcbf2_9ce4_8422_2325_u64, |sum, &byte| (sum ^ u64::from(byte)).wrapping_mul(0x0100_0000_01b3));
-    assert_eq!((stream.len(), sum), (4_639_159, 1_858_170_934_981_547_340));
+    assert_eq!((stream.len(), sum), (4_654_125, 11_380_590_326_537_082_793));
 }
 
 #[test]
@@ -143,6 +144,22 @@ fn each_pair_of_faults_that_can_meet() {
 }
 
 #[test]
+fn each_flow_has_sheets_that_no_footer_may_follow() {
+    for flow in published() {
+        for turn in 0..20 {
+            let dice = &mut Dice::new(9, turn);
+            let mut draft = Draft::good(flow, 300, dice);
+            draft.last_line_feed = true;
+            no_made_footer(&mut draft, dice);
+            let sheet = draft.sheet();
+            let refused = write(flow.name.as_bytes(), &sheet, &mut vec![0; sheet.len() + 50]);
+            let made_footer = Refusal::at(5, records_of(&sheet).len() + 1, 1, sheet.len());
+            assert!(!sheet.is_empty() && refused == Err(made_footer), "{} {}", flow.name, turn);
+        }
+    }
+}
+
+#[test]
 fn streams_hold_long_files_and_stay_small() {
     let stream = generator(2, "judge,write").stream(1500);
     let lengths: Vec<usize> = cases_of(&stream)
@@ -174,7 +191,7 @@ fn streams_read_sheets_that_are_longer_than_the_writer_takes() {
 /// The kind of the record that is refused with 11, and whether its key is equal to the one before.
 fn refused_key(flow: &[u8], file: &[u8]) -> Option<(String, bool)> {
     let (record, field) = match judge(flow, file) {
-        Err(Refusal { number: 11, record, field }) => (record, field),
+        Err(Refusal { number: 11, record, field, .. }) => (record, field),
         _ => return None,
     };
     let records = records_of(file);

@@ -26,13 +26,14 @@ fn is_bad(stream: &[u8]) -> bool {
 
 #[test]
 fn answers_to_files() {
-    assert_eq!(answered("judge\tP0138001\t88", EXAMPLE), "ok\t0\t4\t0\n");
-    assert_eq!(answered("judge\t\t0", b""), "refused\t1\t0\t0\n");
-    assert_eq!(answered("judge\tP0138001\t0", b""), "refused\t14\t1\t0\n");
+    assert_eq!(answered("judge\tP0138001\t88", EXAMPLE), "ok\t0\t4\t0\t0\n");
+    assert_eq!(answered("judge\t\t0", b""), "refused\t1\t0\t0\t0\n");
+    assert_eq!(answered("judge\tP0138001\t0", b""), "refused\t14\t1\t0\t0\n");
+    assert_eq!(answered("judge\tP0138001\t72", &EXAMPLE[..72]), "refused\t14\t4\t0\t72\n");
     assert_eq!(answered("value\tP0138001\t1\t1\t88", EXAMPLE), "ok\t0\ttext\tZHD\n");
     assert_eq!(answered("value\tP0138001\t2\t3\t88", EXAMPLE), "ok\t0\tempty\t\n");
     assert_eq!(answered("value\tP0138001\t3\t2\t88", EXAMPLE), "ok\t0\tnumber\t10250\n");
-    assert_eq!(answered("value\tP0138001\t9\t2\t88", EXAMPLE), "refused\t18\t9\t2\n");
+    assert_eq!(answered("value\tP0138001\t9\t2\t88", EXAMPLE), "refused\t18\t9\t2\t88\n");
 }
 
 #[test]
@@ -41,8 +42,8 @@ fn answers_to_fields() {
     assert_eq!(answered("field\tbol\t-\t0\t1", b"F"), "ok\t0\ttruth\tF\n");
     assert_eq!(answered("field\tbol\topt\t0\t0", b""), "ok\t0\tempty\t\n");
     assert_eq!(answered("field\ttext(4)\t=\t2\t2", b"ABAB"), "ok\t0\ttext\tAB\n");
-    assert_eq!(answered("field\ttext(4)\t=\t2\t1", b"ABA"), "refused\t10\t0\t0\n");
-    assert_eq!(answered("field\tdec(4,4)\t-\t0\t0", b""), "refused\t18\t0\t0\n");
+    assert_eq!(answered("field\ttext(4)\t=\t2\t1", b"ABA"), "refused\t10\t0\t0\t0\n");
+    assert_eq!(answered("field\tdec(4,4)\t-\t0\t0", b""), "refused\t18\t0\t0\t0\n");
 }
 
 #[test]
@@ -52,18 +53,19 @@ fn answers_to_sums_and_steps() {
     assert_eq!(answered("step\tP0133001\t6", b"ZHDZPT"), "ok\t0\tcomplete\t\n");
     assert_eq!(answered("step\tP0181002\t6", b"ZHDGS7"), "ok\t0\topen\tGS7SUPZPT\n");
     assert_eq!(answered("step\tP0133001\t6", b"ZHDTA2"), "stopped\t0\t2\t0\n");
-    assert_eq!(answered("step\tP0133002\t6", b"ZHDTA2"), "refused\t1\t0\t0\n");
+    assert_eq!(answered("step\tP0133002\t6", b"ZHDTA2"), "refused\t1\t0\t0\t0\n");
 }
 
 #[test]
 fn answers_to_sheets() {
     let sheet = sheet_of(&lines("P0138001"));
     let file = String::from_utf8(EXAMPLE.to_vec()).unwrap();
-    assert_eq!(answered("write\tP0138001\t88\t72", &sheet), format!("ok\t0\t4\t88\t1\n{}\n", file));
-    assert_eq!(answered("write\tP0138001\t87\t72", &sheet), "refused\t17\t0\t0\t1\n");
+    assert_eq!(answered("write\tP0138001\t88\t72", &sheet), format!("ok\t0\t4\t88\t0\t1\n{}\n", file));
+    assert_eq!(answered("write\tP0138001\t87\t72", &sheet), "refused\t17\t0\t0\t0\t1\n");
+    assert_eq!(answered("write\tP0138001\t88\t61", &sheet[..61]), "refused\t5\t3\t1\t61\t1\n");
     let text = String::from_utf8(sheet).unwrap();
-    assert_eq!(answered("read\tP0138001\t100\t88", EXAMPLE), format!("ok\t0\t4\t72\t1\n{}\n", text));
-    assert_eq!(answered("read\tP0138001\t0\t0", b""), "refused\t14\t1\t0\t1\n");
+    assert_eq!(answered("read\tP0138001\t100\t88", EXAMPLE), format!("ok\t0\t4\t72\t0\t1\n{}\n", text));
+    assert_eq!(answered("read\tP0138001\t0\t0", b""), "refused\t14\t1\t0\t0\t1\n");
 }
 
 #[test]
@@ -121,11 +123,13 @@ fn the_comparison_finds_every_difference() {
         case("write\tP0138001\t100\t72", &sheet),
         case("sum\t3", b"abc"),
         case("step\tP0133001\t3", b"ZHD"),
+        case("value\tP0138001\t9\t2\t88", EXAMPLE),
+        case("write\tP0138001\t100\t61", &sheet[..61]),
     ]
     .concat();
     let right = answers(&stream);
     let same = compare(&stream, &right);
-    assert_eq!((same.cases, same.differences, same.kept.len()), (4, 0, 0));
+    assert_eq!((same.cases, same.differences, same.kept.len()), (6, 0, 0));
     for place in 0..right.len() {
         let mut other = right.clone();
         other[place] ^= 1;
@@ -136,7 +140,7 @@ fn the_comparison_finds_every_difference() {
     assert_eq!(one.differences, 1);
     assert_eq!(one.kept, case("write\tP0138001\t100\t72", &sheet));
     let none_written =
-        replaced(&right, &format!("4\t88\t1\n{}", String::from_utf8_lossy(EXAMPLE)), "4\t0\t1\n");
+        replaced(&right, &format!("4\t88\t0\t1\n{}", String::from_utf8_lossy(EXAMPLE)), "4\t0\t0\t1\n");
     assert_eq!(compare(&stream, &none_written).differences, 1);
     assert_eq!(compare(&stream, &[&right[..], b"more"].concat()).differences, 1);
 }

@@ -4,7 +4,7 @@ use super::dice::Dice;
 use super::draft::{Draft, LONG_FLOWS};
 use super::edits::{edit, spoil_byte, LOUD};
 use super::faults::spoil;
-use super::footers::early_footer;
+use super::footers::{early_footer, no_made_footer};
 use super::values::letters;
 use crate::flows::{published, Flow};
 use crate::judge::FILE_LIMIT;
@@ -63,10 +63,9 @@ pub fn sheet(good: usize, dice: &mut Dice) -> Given {
         return big_sheet(dice);
     }
     if dice.below(100) < good {
-        let draft = good_sheet(&[], dice);
-        return given(&draft, draft.sheet());
+        return right_sheet(dice);
     }
-    let mut given = match dice.weighed(&[4, 2, 1, 1, 1, 3]) {
+    let mut given = match dice.weighed(&[4, 2, 1, 1, 1, 2, 3]) {
         0 => {
             let faults = [*dice.pick(&FAULTS), *dice.pick(&FAULTS)];
             let mut draft = good_sheet(&faults, dice);
@@ -82,10 +81,8 @@ pub fn sheet(good: usize, dice: &mut Dice) -> Given {
         }
         3 => Given { flow: dice.pick(published()).name.into(), bytes: odd_bytes(dice) },
         4 => good_file(dice),
-        _ => {
-            let draft = good_sheet(&[], dice);
-            given(&draft, draft.sheet())
-        }
+        5 => sheet_without_made_footer(dice),
+        _ => right_sheet(dice),
     };
     if dice.one_in(3) {
         put_bars(&mut given.bytes, dice);
@@ -106,6 +103,11 @@ fn good_sheet(faults: &[u8], dice: &mut Dice) -> Draft {
     draft
 }
 
+fn right_sheet(dice: &mut Dice) -> Given {
+    let draft = good_sheet(&[], dice);
+    given(&draft, draft.sheet())
+}
+
 /// A sheet with a footer line, at its end or early, right or wrong.
 fn sheet_with_footer(dice: &mut Dice) -> Given {
     let mut draft = good_sheet(&[], dice);
@@ -117,6 +119,13 @@ fn sheet_with_footer(dice: &mut Dice) -> Given {
     }
     let fault = *dice.pick(&FAULTS);
     spoil(&mut draft, &[*dice.pick(&[fault, 12, 13])], dice);
+    given(&draft, draft.sheet())
+}
+
+/// A sheet that is right as far as it goes, and that no made footer may follow.
+fn sheet_without_made_footer(dice: &mut Dice) -> Given {
+    let mut draft = good_sheet(&[], dice);
+    no_made_footer(&mut draft, dice);
     given(&draft, draft.sheet())
 }
 
@@ -148,10 +157,10 @@ pub fn given(draft: &Draft, bytes: Vec<u8>) -> Given {
     Given { flow: draft.flow.name.into(), bytes }
 }
 
-/// Most files are small, one in some eighty has 64 KiB.
+/// Most files are small, one in some eighty has more than 64 KiB.
 fn size(dice: &mut Dice) -> usize {
     if dice.one_in(80) {
-        return 65_536;
+        return 70_000;
     }
     match dice.below(10) {
         0 | 1 => 0,

@@ -1,4 +1,4 @@
-//! Footers that are wrong, as a careless reading would have them, and footers that stand early.
+//! Footers that are wrong, as a careless reading would have them, and footers that stand early or twice.
 
 use super::dice::Dice;
 use super::draft::Draft;
@@ -57,4 +57,28 @@ pub fn early_footer(draft: &mut Draft, dice: &mut Dice) {
     let place = dice.between(0, draft.records.len().saturating_sub(1));
     draft.records.insert(place, vec![b"ZPT".to_vec(), Vec::new(), Vec::new()]);
     draft.refoot();
+}
+
+/// Makes a good draft one whose sheet the writer can add no footer to: it is cut where the grammar
+/// has none yet, or it has its own.
+pub fn no_made_footer(draft: &mut Draft, dice: &mut Dice) {
+    let cuts = unfinished(draft);
+    if cuts.is_empty() || dice.one_in(2) {
+        draft.records.extend(draft.records.last().cloned());
+    } else {
+        draft.records.truncate(*dice.pick(&cuts));
+    }
+}
+
+/// After how many records of a good draft, one at least, the grammar has no footer yet.
+fn unfinished(draft: &Draft) -> Vec<usize> {
+    let mut left = draft.flow.grammar.clone();
+    let mut counts = Vec::new();
+    for (before, record) in draft.records.iter().enumerate() {
+        left = left.after(&record[0]).expect("the grammar goes through a good draft");
+        if record[0] != b"ZPT" && left.after(b"ZPT").is_none() {
+            counts.push(before + 1);
+        }
+    }
+    counts
 }

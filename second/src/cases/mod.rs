@@ -161,7 +161,7 @@ fn with_fixed(mut written: Vec<u8>, case: &parts::FieldCase) -> Vec<u8> {
     written
 }
 
-/// A field to ask for: mostly one that is there, at times one past the end, or 0.
+/// A field to ask for: mostly one that is there, at times 0, or one past the end.
 fn asked_field(file: &[u8], dice: &mut Dice) -> (usize, usize) {
     let records = records_of(file);
     let record = asked(records.len(), dice);
@@ -171,8 +171,9 @@ fn asked_field(file: &[u8], dice: &mut Dice) -> (usize, usize) {
 
 fn asked(count: usize, dice: &mut Dice) -> usize {
     match dice.below(16) {
-        0 => *dice.pick(&[0, count + 1, count + 2, 255, 65_536, ASKED_LIMIT]),
-        1 => count,
+        0 => 0,
+        1 => *dice.pick(&[count + 1, count + 1, count + 2, 255, 65_536, ASKED_LIMIT]),
+        2 => count,
         _ => dice.between(1, count.max(1)),
     }
 }
