@@ -5,19 +5,23 @@ use mathlib.Core.Bool.{Bool, true, false}
 use mathlib.Core.List.{List, [], _∷_, _++_, map}
 use native.Mathlib.Omega.{arith}
 use lib.ListN.{length, take, getD, length-append, length-map}
+use borrow.Author.Tests.{ne-eqb}
 use Rattle.text.specs.Rules.{must}
 use Rattle.text.specs.Characters.{from-to}
-use Rattle.record.specs.Records.{records, fields, extent, barred, joined, turned, holds, someHolds, bar}
+use Rattle.record.specs.Records.{records, fields, extent, barred, joined, turned, holds, someHolds, Bytes, bar}
 use Rattle.record.proofs.Cutting.{neither}
-use Rattle.record.proofs.Turned.{turned-length, fields-turned}
+use Rattle.record.proofs.Turned.{turned-length, turned-bytes, fields-turned}
 use Rattle.checksum.specs.Checksum.{checksumOf}
+use Rattle.checksum.proofs.Sums.{checksumOf-lt}
 use Rattle.place.specs.Places.{recordAt, recordStart, fieldStart, placeAt, refusal}
 use Rattle.place.proofs.Points.{at-zero, past-end, in-record}
 use Rattle.layout.specs.Layout.{Layout, mayFollow}
+use Rattle.flow.specs.Publication.{layoutFor}
+use Rattle.flow.specs.Flows.{flowNumber, flowNamed}
 use Rattle.fault.specs.declared.Check.{Check}
 use Rattle.fault.specs.declared.Check.the-variants.{Fine, Fault}
 use Rattle.judge.specs.Record.{lastKind, fault}
-use Rattle.judge.specs.File.{atRecord, checkedFrom, finish, judgedBy, withPlace}
+use Rattle.judge.specs.File.{atRecord, checkedFrom, finish, judgedBy, verdict, withPlace, paper, judged}
 use Rattle.judge.specs.declared.Verdict.{Verdict}
 use Rattle.judge.specs.declared.Verdict.the-variants.{Accepted, Refused}
 use Rattle.judge.specs.declared.Judged.the-variants as answers
@@ -25,7 +29,7 @@ use Rattle.sheet.specs.Sheets.{tab, made}
 use Rattle.sheet.specs.Write.{linesEnded}
 use Rattle.sheet.specs.Code.{linesJudged}
 use Rattle.sheet.proofs.Holding.{records-hold}
-use Rattle.sheet.proofs.Footers.{ProperFooter, lastRow}
+use Rattle.sheet.proofs.Footers.{ProperFooter, properFooter, lastRow}
 use Rattle.sheet.proofs.MadeFiles.{sheet-joined, records-made, made-judged}
 
 -- lines, their tabs turned to bars and more records behind them: where each starts, and what it is
@@ -146,8 +150,7 @@ module _ (l : Layout) (proper : ProperFooter l) (sheet : List ℕ) (short : leng
   then-footer (Accepted n) w h e = e
   then-footer (Refused number r k) w h e = in-lines (Refused number r k) h
 
-  -- whatever the reader says of the made file, its place there is the writer's in the sheet
-  pub same-place : SamePlaced (judgedBy l (made sheet))
+  same-place : SamePlaced (judgedBy l (made sheet))
   unfolding linesJudged
   same-place =
       let said = made-judged l proper sheet short free ends small in
@@ -155,3 +158,13 @@ module _ (l : Layout) (proper : ProperFooter l) (sheet : List ℕ) (short : leng
       let lines = checkedFrom tab l none (records sheet) in
       rw said (then-footer lines _ (wider {m = length none + length (records sheet)} (omega arith) lines (checked-within tab l none (records sheet)))
       (at-footer (mayFollow l (lastKind tab l (records sheet)) (lastRow l))))
+
+-- what the writer takes over from the reader is the reader's answer on the made file, its place included
+module _ (name sheet : List ℕ) (known : flowNumber name ≡ 0 → ⊥) (short : length sheet ≤ 1048000) (free : holds bar sheet ≡ false)
+    (ends : linesEnded sheet ≡ true) (bytes : Bytes sheet) where
+  pub judged-place : paper (withPlace tab sheet (verdict name (made sheet))) ≡ judged name (made sheet)
+  unfolding judged verdict
+  judged-place =
+      let small = checksumOf-lt (turned tab bar sheet) (turned-bytes tab bar sheet (omega arith) bytes) in
+      rw (ne-eqb (flowNumber name) 0 known)
+      (ap paper (same-place (layoutFor (flowNamed name)) (properFooter (flowNumber name)) sheet short free ends small))

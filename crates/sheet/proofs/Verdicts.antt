@@ -17,7 +17,7 @@ use Rattle.flow.specs.Publication.{layoutFor}
 use Rattle.flow.specs.Flows.{held, flowNumber, flowNamed}
 use Rattle.judge.specs.Record.{lastKind, sumOf}
 use Rattle.judge.specs.Code.{summary}
-use Rattle.judge.specs.File.{checkedFrom, verdict, withPlace, paper, judged}
+use Rattle.judge.specs.File.{checkedFrom, verdict}
 use Rattle.fault.specs.declared.State.{State}
 use Rattle.judge.specs.declared.Verdict.the-variants.{Accepted, Refused}
 use Rattle.sheet.specs.Sheets.{tab, made, barLine}
@@ -28,7 +28,6 @@ use Rattle.sheet.specs.declared.Made.{Made}
 use Rattle.sheet.specs.declared.Made.the-variants as mades
 use Rattle.sheet.proofs.Footers.{lastRow, properFooter}
 use Rattle.sheet.proofs.MadeFiles.{sheet-sum, made-judged}
-use Rattle.sheet.proofs.SamePlace.{same-place}
 
 -- the lines of a sheet
 module _ (l : Layout) (sheet : List ℕ) where
@@ -101,11 +100,6 @@ module _ (name sheet : List ℕ) where
           verdict-is : verdict name (made sheet) ≡ linesJudged l (records sheet)
           unfolding verdict
           verdict-is = rw is-held (made-judged l (properFooter (flowNumber name)) sheet short free ends small)
-
-          -- what the writer takes over from the reader is the reader's answer on the made file, its place included
-          pub judged-place : paper (withPlace tab sheet (verdict name (made sheet))) ≡ judged name (made sheet)
-          unfolding judged verdict
-          judged-place = rw is-held (ap paper (same-place l (properFooter (flowNumber name)) sheet short free ends small))
 
           pub refused-is : (number r f room : ℕ) → linesJudged l (records sheet) ≡ Refused number r f → written name sheet room ≡ transfers.Refused (refusalAt tab sheet number r f)
           unfolding written
