@@ -1,17 +1,16 @@
 // The sentence on a refusal of a file or a sheet: where it is, the rule, what was found and what would be
 // right. In a file bars part the fields, in a sheet tabs.
 use crate::form;
+use crate::heading;
 use crate::kinds;
 use crate::kinds::kind_at;
-use crate::place;
-use crate::place::Refusal;
 use crate::refusals;
 use crate::say;
 use judge::Verdict;
+use place::Refusal;
 use record::BAR;
 use record::Cursor;
 use record::FEED;
-use record::Found;
 use record::Step;
 use record::TAB;
 use stream::print;
@@ -94,17 +93,9 @@ fn say_key_before(t: &[u32], sep: u8, file: &[u8], kind: usize, r: Refusal) -> b
         && (!layout::may_repeat(t, kind) || print(b", which may come again"))
 }
 
-// Where line n starts; the end of the file where there is none.
-fn start_of(file: &[u8], n: usize) -> usize {
-    match record::field_at(FEED, file, n) {
-        Found::At { start, end: _ } => start,
-        Found::Nothing => file.len(),
-    }
-}
-
-// What stands where the refusal is. A sheet's footer is the writer's.
+// What stands where the refusal is. A sheet's footer is the writer's: it points at the end of the sheet.
 fn say_found(sep: u8, file: &[u8], r: Refusal) -> bool {
-    if file.len() <= start_of(file, r.record) {
+    if sep == TAB && r.place == file.len() {
         return print(b"; found the footer that the writer adds");
     }
     say::found_field(words::part(sep, words::part(FEED, file, r.record), r.field))
@@ -118,7 +109,7 @@ fn say_right(sep: u8, file: &[u8], r: Refusal) -> bool {
     if r.number == 12 {
         return print(b"; right is ") && say::number(r.record);
     }
-    let before = text::part(file, 0, start_of(file, r.record));
+    let before = text::part(file, 0, place::of(BAR, file, r.record, 0));
     print(b"; right is ") && say::number(checksum::of_bytes(before) as usize)
 }
 
@@ -225,7 +216,7 @@ fn say_there(t: &[u32], records: usize, file: &[u8], r: Refusal) -> bool {
         && say::number(r.field)
         && print(b": record ")
         && say::number(n)
-        && place::say_kind(t, BAR, file, n)
+        && heading::say_kind(t, BAR, file, n)
         && print(b", has fields 1 to ")
         && say::number(record::count_fields(BAR, words::part(FEED, file, n)))
 }
@@ -242,12 +233,12 @@ fn say_asked(t: &[u32], fixed: &[u8], file: &[u8], r: Refusal) -> bool {
     }
 }
 
-// Place, rule and details of a refusal, by the flow's table. 18 has its own rule, the one that was broken.
+// Record, rule and details of a refusal, by the flow's table. 18 has its own rule, the one that was broken.
 fn say_refusal(t: &[u32], fixed: &[u8], sep: u8, file: &[u8], r: Refusal) -> bool {
     if r.number == 18 {
         return say_asked(t, fixed, file, r);
     }
-    place::say_place(t, sep, file, r)
+    heading::say_heading(t, sep, file, r)
         && refusals::rule(r.number)
         && say_details(t, fixed, sep, file, r)
         && say_footer_line(t, sep, file, r)

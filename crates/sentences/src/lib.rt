@@ -3,15 +3,14 @@
 mod ask;
 mod form;
 mod found;
+mod heading;
 mod kinds;
-mod place;
 mod refusals;
 mod say;
 mod step;
 
 pub use ask::about_field;
 pub use found::about_file;
-pub use place::Refusal;
 pub use refusals::explain;
 pub use refusals::has_rule;
 pub use step::about_stop;

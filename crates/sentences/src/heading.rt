@@ -1,15 +1,9 @@
-// Where a refusal is.
+// How a sentence begins: the record and the field of a refusal.
 use crate::kinds;
 use crate::say;
+use place::Refusal;
 use record::TAB;
 use stream::print;
-
-// A refusal: its number, record and field.
-pub struct Refusal {
-    pub number: usize,
-    pub record: usize,
-    pub field: usize,
-}
 
 // A sheet has lines, a file records.
 fn say_line(sep: u8, n: usize) -> bool {
@@ -37,7 +31,7 @@ fn say_field(k: usize) -> bool {
 }
 
 // `In record 4, ZPT, field 3: `, as far as they are given. Refusal 14 is at a record that is not there.
-pub fn say_place(t: &[u32], sep: u8, file: &[u8], r: Refusal) -> bool {
+pub fn say_heading(t: &[u32], sep: u8, file: &[u8], r: Refusal) -> bool {
     let n = r.record;
     if n == 0 {
         return print(b"The rule: ");
