@@ -4,12 +4,12 @@ use mathlib.Core.Bool.{false, cond}
 use lib.Dec.{ltb}
 use Rattle.stream.specs.declared.ending.Ending.{Ending}
 use Rattle.stream.specs.declared.ending.Ending.the-variants as endings
-use Rattle.rig.specs.declared.judging.Judged.{Judged}
-use Rattle.rig.specs.declared.judging.Judged.the-variants.{Accepted, Refused, Unread, Unwritten}
+use Rattle.rig.specs.declared.judging.Outcome.{Outcome}
+use Rattle.rig.specs.declared.judging.Outcome.the-variants.{Accepted, Refused, Unread, Unwritten}
 use Rattle.rig.specs.declared.judging.Tally.{Tally}
 
 -- a tally with one file more
-abbrev pub countedOf : Tally → Judged → Tally
+abbrev pub countedOf : Tally → Outcome → Tally
 countedOf t Accepted = record { accepted = t .accepted + 1; refused = t .refused; unread = t .unread; written = t .written }
 countedOf t Refused = record { accepted = t .accepted; refused = t .refused + 1; unread = t .unread; written = t .written }
 countedOf t Unread = record { accepted = t .accepted; refused = t .refused; unread = t .unread + 1; written = t .written }

@@ -10,11 +10,11 @@ use field::FieldType;
 use field::Mark;
 use flow::StepAnswer;
 use printing::print_numbers;
+use printing::print_refusal;
 use printing::print_truth;
 use printing::print_value;
 use printing::print_whole;
 use record::BAR;
-use sentences::Refusal;
 use stream::Ending;
 use text::same_bytes;
 use value::Value;
@@ -25,18 +25,7 @@ use words::Number;
 // Prints the value of one field of a file.
 fn value_in(flow: &[u8], file: &[u8], record: usize, field: usize) -> Ending {
     match value::value_of(flow, file, record, field) {
-        Value::Refused {
-            number,
-            record,
-            field,
-        } => {
-            let r = Refusal {
-                number: number,
-                record: record,
-                field: field,
-            };
-            refuse(flow, BAR, file, r)
-        }
+        Value::Refused(r) => refuse(flow, BAR, file, r),
         Value::Empty => well(print_value(b"empty", b"")),
         Value::Number(n) => well(print_whole(n)),
         Value::Truth(truth) => well(print_truth(truth)),
@@ -80,13 +69,13 @@ pub fn sum_of(room: &mut [u8]) -> Ending {
     if 1048576 < size {
         return hinder(b"FILE has more than 1,048,576 bytes");
     }
-    well(print_numbers(b"ok", 0, checksum::of_bytes(&room[..size]) as usize, 0))
+    well(print_numbers(b"ok", &[0, checksum::of_bytes(&room[..size]) as usize, 0]))
 }
 
 // Prints that a field is refused, and the sentence on it.
 fn refuse_field(form: FieldType, mark: Mark, fixed: &[u8], bytes: &[u8], number: usize) -> Ending {
     refused(
-        print_numbers(b"refused", number, 0, 0)
+        print_refusal(place::whole(number))
             && sentences::about_field(form, mark, fixed, bytes, number),
     )
 }
@@ -150,21 +139,14 @@ pub fn marked_field() -> Ending {
 
 // Prints where a list of kinds stopped, and the sentence on it.
 fn stop(flow: &[u8], kinds: &[u8], place: usize) -> Ending {
-    refused(print_numbers(b"stopped", 0, place, 0) && sentences::about_stop(flow, kinds, place))
+    refused(print_numbers(b"stopped", &[0, place, 0]) && sentences::about_stop(flow, kinds, place))
 }
 
 // Prints where a list of kinds leads.
 fn step_by(flow: &[u8], kinds: &[u8]) -> Ending {
     let mut follow = [0u8; 96];
     match flow::step(flow, kinds, &mut follow) {
-        StepAnswer::Refused(number) => {
-            let r = Refusal {
-                number: number as usize,
-                record: 0,
-                field: 0,
-            };
-            refuse(flow, BAR, b"", r)
-        }
+        StepAnswer::Refused(number) => refuse(flow, BAR, b"", place::whole(number as usize)),
         StepAnswer::Stopped(place) => stop(flow, kinds, place),
         StepAnswer::Through { count, complete } => {
             well(printing::print_follow(count, complete, &follow))

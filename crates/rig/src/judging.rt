@@ -1,19 +1,20 @@
 // judge FLOW FILE..: files judged for a flow.
 use crate::arguments::refused;
-use judge::Verdict;
-use printing::print_numbers;
+use judge::Judged;
+use place::Refusal;
+use printing::print_accepted;
 use record::BAR;
-use sentences::Refusal;
 use stream::Ending;
 use stream::print;
 use stream::print_number;
 ghost use mathlib.Core.Path.{_≡_};
 ghost use mathlib.Core.Bool.{true};
 ghost use Prim.Native.Nat.{_+_, _^_, _<_};
+ghost use Rattle.pointing.specs.Shown.{Placed};
 ghost use Rattle.rig.specs.Tally.{countedOf, endingOf};
 
 // What came of one file; it is unwritten where its answer could not be written.
-pub enum Judged {
+pub enum Outcome {
     Accepted,
     Refused,
     Unread,
@@ -28,41 +29,32 @@ pub struct Tally {
     pub written: bool,
 }
 
-// Prints a refusal of a file or a sheet, and the sentence on it.
-pub fn print_refusal(flow: &[u8], sep: u8, file: &[u8], r: Refusal) -> bool {
-    print_numbers(b"refused", r.number, r.record, r.field)
+// Prints a refusal of a file or a sheet, the sentence on it, and the byte that it points at.
+pub fn print_refusal(flow: &[u8], sep: u8, file: &[u8], r: Refusal) -> bool
+    requires { ⌜ Placed sep (now file) r ⌝ }
+{
+    printing::print_refusal(r)
         && sentences::about_file(flow, sep, file, r)
+        && pointing::point(sep, file, r)
 }
 
 // Ends a command with a refusal of a file or a sheet.
-pub fn refuse(flow: &[u8], sep: u8, file: &[u8], r: Refusal) -> Ending {
+pub fn refuse(flow: &[u8], sep: u8, file: &[u8], r: Refusal) -> Ending
+    requires { ⌜ Placed sep (now file) r ⌝ }
+{
     refused(print_refusal(flow, sep, file, r))
 }
 
-// An answer that may not have been written.
-fn written_or(written: bool, j: Judged) -> Judged {
-    if written { j } else { Judged::Unwritten }
+// What came of a file whose answer may not have been written.
+fn written_or(written: bool, o: Outcome) -> Outcome {
+    if written { o } else { Outcome::Unwritten }
 }
 
 // Judges the bytes of a file and prints the answer.
-fn judge_bytes(flow: &[u8], file: &[u8]) -> Judged {
+fn judge_bytes(flow: &[u8], file: &[u8]) -> Outcome {
     match judge::judge(flow, file) {
-        Verdict::Accepted(records) => written_or(
-            print_numbers(b"ok", 0, records, 0),
-            Judged::Accepted,
-        ),
-        Verdict::Refused {
-            number,
-            record,
-            field,
-        } => {
-            let r = Refusal {
-                number: number,
-                record: record,
-                field: field,
-            };
-            written_or(print_refusal(flow, BAR, file, r), Judged::Refused)
-        }
+        Judged::Accepted(records) => written_or(print_accepted(records), Outcome::Accepted),
+        Judged::Refused(r) => written_or(print_refusal(flow, BAR, file, r), Outcome::Refused),
     }
 }
 
@@ -72,16 +64,16 @@ fn print_name(path: &[u8]) -> bool {
 }
 
 // Judges the file that word i names; its name stands in front of the answer where it is asked.
-fn judge_word(flow: &[u8], i: usize, named: bool, room: &mut [u8]) -> Judged {
+fn judge_word(flow: &[u8], i: usize, named: bool, room: &mut [u8]) -> Outcome {
     let mut path = io::large_buffer();
     let n = os::arg(i, &mut path);
     let loaded = stream::load(b"rig", &path[..n], room);
     if !loaded.read {
-        return Judged::Unread;
+        return Outcome::Unread;
     }
     if named {
         if !print_name(&path[..n]) {
-            return Judged::Unwritten;
+            return Outcome::Unwritten;
         }
     }
     let size = loaded.size;
@@ -89,30 +81,30 @@ fn judge_word(flow: &[u8], i: usize, named: bool, room: &mut [u8]) -> Judged {
 }
 
 // The tally with one file more.
-fn counted(t: Tally, j: Judged) -> Tally
+fn counted(t: Tally, o: Outcome) -> Tally
     requires { ⌜ t .accepted + t .refused + t .unread + 1 < 2 ^ 64 ⌝ }
-    ensures { λ r. ⌜ r ≡ countedOf t j ⌝ }
+    ensures { λ r. ⌜ r ≡ countedOf t o ⌝ }
 {
-    match j {
-        Judged::Accepted => Tally {
+    match o {
+        Outcome::Accepted => Tally {
             accepted: t.accepted + 1,
             refused: t.refused,
             unread: t.unread,
             written: t.written,
         },
-        Judged::Refused => Tally {
+        Outcome::Refused => Tally {
             accepted: t.accepted,
             refused: t.refused + 1,
             unread: t.unread,
             written: t.written,
         },
-        Judged::Unread => Tally {
+        Outcome::Unread => Tally {
             accepted: t.accepted,
             refused: t.refused,
             unread: t.unread + 1,
             written: t.written,
         },
-        Judged::Unwritten => Tally {
+        Outcome::Unwritten => Tally {
             accepted: t.accepted,
             refused: t.refused,
             unread: t.unread,

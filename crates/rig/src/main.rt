@@ -1,5 +1,5 @@
 // The rig: one program for people at the bench. It prints the answer's line and, for a refusal, a
-// sentence on it. What hinders a call is said on standard error.
+// sentence on it and the byte that it points at. What hinders a call is said on standard error.
 mod arguments;
 mod asking;
 mod call;

@@ -5,9 +5,9 @@ use crate::judging::refuse;
 use printing::print_numbers;
 use record::BAR;
 use record::TAB;
-use sentences::Refusal;
 use sheet::Transfer;
 use stream::Ending;
+ghost use Rattle.rig.specs.Placed.{PlacedIn};
 
 // Fills a new file and closes it; all of it is then on the disk.
 fn fill(fd: i32, bytes: &[u8]) -> bool {
@@ -36,33 +36,26 @@ fn store_out(bytes: &[u8]) -> bool {
     store(&path[..n], bytes)
 }
 
-// Makes a file from a sheet, whose fields are parted by tabs, or a sheet from a file.
-fn make(sep: u8, flow: &[u8], given: &[u8], out: &mut [u8]) -> Transfer {
-    if sep == TAB {
-        return sheet::write(flow, given, out);
+// Keeps what was made, or refuses what it was to be made from.
+fn keep(flow: &[u8], sep: u8, given: &[u8], out: &[u8], made: Transfer) -> Ending
+    requires { ⌜ PlacedIn sep (now given) made ⌝ }
+{
+    match made {
+        Transfer::Done { records, bytes } => well(
+            store_out(text::part(out, 0, bytes)) && print_numbers(b"ok", &[0, records, bytes, 0]),
+        ),
+        Transfer::Refused(r) => refuse(flow, sep, given, r),
     }
-    sheet::read(flow, given, out)
 }
 
-// Makes the one from the other and keeps it.
-fn make_and_store(sep: u8, flow: &[u8], given: &[u8], out: &mut [u8]) -> Ending {
-    match make(sep, flow, given, out) {
-        Transfer::Done { records, bytes } => well(
-            store_out(text::part(out, 0, bytes)) && print_numbers(b"ok", 0, records, bytes),
-        ),
-        Transfer::Refused {
-            number,
-            record,
-            field,
-        } => {
-            let r = Refusal {
-                number: number,
-                record: record,
-                field: field,
-            };
-            refuse(flow, sep, given, r)
-        }
+// Makes a file from a sheet, whose fields are parted by tabs, or a sheet from a file, and keeps it.
+fn make_and_keep(sep: u8, flow: &[u8], given: &[u8], out: &mut [u8]) -> Ending {
+    if sep == TAB {
+        let made = sheet::write(flow, given, out);
+        return keep(flow, TAB, given, out, made);
     }
+    let made = sheet::read(flow, given, out);
+    keep(flow, BAR, given, out, made)
 }
 
 // Makes what the flow of word 2 asks. The room has one byte more than a file may have.
@@ -70,7 +63,7 @@ fn make_from(sep: u8, given: &[u8]) -> Ending {
     let mut flow = io::large_buffer();
     let f = os::arg(2, &mut flow);
     let mut out = [0u8; 1048577];
-    make_and_store(sep, &flow[..f], given, &mut out)
+    make_and_keep(sep, &flow[..f], given, &mut out)
 }
 
 // Makes a file or a sheet from the one that word 3 names.

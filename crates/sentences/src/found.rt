@@ -93,7 +93,7 @@ fn say_key_before(t: &[u32], sep: u8, file: &[u8], kind: usize, r: Refusal) -> b
         && (!layout::may_repeat(t, kind) || print(b", which may come again"))
 }
 
-// What stands where the refusal is. A sheet's footer is the writer's: it points at the end of the sheet.
+// What stands where the refusal is. The footer that the writer adds to a sheet has the sheet's end as its place.
 fn say_found(sep: u8, file: &[u8], r: Refusal) -> bool {
     if sep == TAB && r.place == file.len() {
         return print(b"; found the footer that the writer adds");

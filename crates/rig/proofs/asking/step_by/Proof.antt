@@ -1,7 +1,9 @@
--- `step_by` is safe: the kinds that may follow are few, so that their names stand in the lent bytes.
+-- A step's refusal is one of the whole, and the kinds that may follow are few, so that their names stand in the lent bytes.
 use denote.Ref.{now}
+use mathlib.Core.List.{[]}
 use Rattle.flow.specs.Flows.{flowNumber}
 use Rattle.printing.proofs.Follow.{follow-few}
+use Rattle.rig.proofs.Points.{whole-placed}
 use borrow.Author.Needs.{needs}
 use Rattle.rig.proofs.asking.step_by.Statement.{statement}
 use Rattle.rig.proofs.asking.step_by.Tie as tie
@@ -12,14 +14,17 @@ step-requires c κs = search needs
 enum-known-number : tie.Need-enum-known-number
 enum-known-number c = search needs
 
-cast-t13 : tie.Need-cast-t13
-cast-t13 c = search needs
-
 slice-aggregate-refuse : tie.Need-slice-aggregate-refuse
 slice-aggregate-refuse c = search needs
 
+cast-whole : tie.Need-cast-whole
+cast-whole c = search needs
+
+whole-requires : tie.Need-whole-requires
+whole-requires c κs = search needs
+
 refuse-requires : tie.Need-refuse-requires
-refuse-requires c κs = search needs
+refuse-requires c κs = rw (c .whole .ensures) (whole-placed 124 [] 0)
 
 enum-known-place : tie.Need-enum-known-place
 enum-known-place c = search needs
@@ -53,8 +58,9 @@ step-by-spec =
     (tie.spec
     step-requires
     enum-known-number
-    cast-t13
     slice-aggregate-refuse
+    cast-whole
+    whole-requires
     refuse-requires
     enum-known-place
     stop-requires

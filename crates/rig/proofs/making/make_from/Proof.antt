@@ -16,14 +16,14 @@ arg-requires c κs = search needs
 array-share-prefix-flow : tie.Need-array-share-prefix-flow
 array-share-prefix-flow c = search needs
 
-slice-aggregate-make-and-store : tie.Need-slice-aggregate-make-and-store
-slice-aggregate-make-and-store c = search needs
+slice-aggregate-make-and-keep : tie.Need-slice-aggregate-make-and-keep
+slice-aggregate-make-and-keep c = search needs
 
-slice-aggregate-make-and-store-2 : tie.Need-slice-aggregate-make-and-store-2
-slice-aggregate-make-and-store-2 c = filled 1048577
+slice-aggregate-make-and-keep-2 : tie.Need-slice-aggregate-make-and-keep-2
+slice-aggregate-make-and-keep-2 c = filled 1048577
 
-make-and-store-requires : tie.Need-make-and-store-requires
-make-and-store-requires c κs = search needs
+make-and-keep-requires : tie.Need-make-and-keep-requires
+make-and-keep-requires c κs = search needs
 
 returns : tie.Need-returns
 returns c = search needs
@@ -36,7 +36,7 @@ make-from-spec =
     slice-aggregate-arg
     arg-requires
     array-share-prefix-flow
-    slice-aggregate-make-and-store
-    slice-aggregate-make-and-store-2
-    make-and-store-requires
+    slice-aggregate-make-and-keep
+    slice-aggregate-make-and-keep-2
+    make-and-keep-requires
     returns)
