@@ -1,6 +1,6 @@
 -- A place in hex, bytes in their columns and a mark, computed. Assumes nothing.
 use mathlib.Core.Path.{_≡_, refl}
-use mathlib.Core.List.{List, [], _∷_, map}
+use mathlib.Core.List.{[], _∷_, map}
 use Rattle.text.specs.Characters.{bytes}
 use Rattle.pointing.specs.Hex.{hexDigits}
 use Rattle.pointing.specs.Shown.{columnOf, markBehind}

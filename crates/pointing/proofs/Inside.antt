@@ -1,14 +1,14 @@
 -- A place in a record that is there lies within it, or right behind it. Assumes nothing.
-use Prim.Native.Nat.{ℕ, _+_, _-_, _≤_, _<_}
-use mathlib.Core.Path.{_≡_, ap, _∙_}
+use Prim.Native.Nat.{ℕ, _-_, _≤_, _<_}
+use mathlib.Core.Path.{_≡_, ap}
 use mathlib.Core.List.{List}
 use native.Mathlib.Decide.{decLt}
 use native.Mathlib.Omega.{arith}
-use lib.ListN.{length, take, drop}
-use Rattle.record.specs.Records.{records, fields, extent}
+use lib.ListN.{length}
+use Rattle.record.specs.Records.{records, fields}
 use Rattle.record.specs.Found.{Stands}
 use Rattle.record.proofs.Cursors.{part-length}
-use Rattle.place.specs.Places.{recordAt, recordStart, fieldStart, placeAt}
+use Rattle.place.specs.Places.{recordAt, fieldStart, placeAt}
 use Rattle.place.proofs.Lies.{field-lies}
 use Rattle.place.proofs.Points.{field-there, no-field, in-record}
 

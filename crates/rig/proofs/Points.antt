@@ -1,7 +1,7 @@
 -- Each refusal of a file or a sheet has the place of its record and field. Assumes nothing.
 use Prim.Native.Nat.{ℕ}
 use mathlib.Core.Path.{_≡_, refl, sym}
-use mathlib.Core.Bool.{Bool, true, false, not, _||_, cond}
+use mathlib.Core.Bool.{Bool, true, false, not, cond}
 use mathlib.Core.List.{List}
 use native.Mathlib.Omega.{arith}
 use lib.Dec.{eqb, leb}
@@ -20,7 +20,6 @@ use Rattle.judge.specs.File.{verdict, withPlace, judged}
 use Rattle.judge.specs.File.{paper as judgedPaper}
 use Rattle.judge.specs.declared.Verdict.{Verdict}
 use Rattle.judge.specs.declared.Verdict.the-variants as verdicts
-use Rattle.judge.specs.declared.Judged.{Judged}
 use Rattle.judge.specs.declared.Judged.the-variants as files
 use Rattle.value.specs.Value.{isThere, textAt, endOf, asValue, answerIn, fieldValue, ofAccepted, valueBy, valueIn, valued}
 use Rattle.value.specs.Value.{paper as valuePaper}

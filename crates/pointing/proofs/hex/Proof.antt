@@ -1,21 +1,15 @@
+-- The kit's digits, made capitals.
 use borrow.Author.Needs.{needs}
 use Rattle.pointing.proofs.Hexes.{capital-hex}
 use Rattle.pointing.proofs.hex.Statement.{statement}
 use Rattle.pointing.proofs.hex.Tie as tie
-use Rattle.pointing.proofs.hex.Reads as reads
-use Rattle.pointing.proofs.hex.Lts as lts
-use Rattle.io.proofs.hex.Reads as hex-reads
-use Rattle.pointing.proofs.to_capitals.Reads as to-capitals-reads
 
--- src/lib.rt:116:9
 hex-requires : tie.Need-hex-requires
 hex-requires c κs = search needs
 
--- src/lib.rt:117:5
 to-capitals-requires : tie.Need-to-capitals-requires
 to-capitals-requires c κs = search needs
 
--- src/lib.rt:112:1
 returns : tie.Need-returns
 returns c =
     let low = c .before .before .hex in

@@ -1,53 +1,38 @@
+-- The place of a refusal lies in its record, or right behind it.
 use borrow.Author.Needs.{needs}
 use denote.Ref.{now}
 use native.Mathlib.Omega.{arith}
 use Rattle.pointing.proofs.Inside.{place-inside}
 use Rattle.pointing.proofs.point.Statement.{statement}
 use Rattle.pointing.proofs.point.Tie as tie
-use Rattle.pointing.proofs.point.Reads as reads
-use Rattle.pointing.proofs.point.Lts as lts
-use Rattle.pointing.proofs.print_end.Reads as print-end-reads
-use Rattle.pointing.proofs.print_place.Reads as print-place-reads
-use Rattle.pointing.proofs.print_record.Reads as print-record-reads
-use Rattle.record.proofs.record_at.Reads as record-at-reads
 
--- src/lib.rt:187:9
 returns : tie.Need-returns
 returns c = search needs
 
--- src/lib.rt:189:36
 record-at-requires : tie.Need-record-at-requires
 record-at-requires c κs = search needs
 
--- src/lib.rt:189:21
 enum-known-start : tie.Need-enum-known-start
 enum-known-start c = search needs
 
--- src/lib.rt:190:16
 enum-told : tie.Need-enum-told
 enum-told c = search needs
 
--- src/lib.rt:190:16
 print-place-requires : tie.Need-print-place-requires
 print-place-requires c κs = search needs
 
--- src/lib.rt:190:40
 print-end-requires : tie.Need-print-end-requires
 print-end-requires c κs = search needs
 
--- src/lib.rt:190:9
 returns-2 : tie.Need-returns-2
 returns-2 c = search needs
 
--- src/lib.rt:190:9
 returns-3 : tie.Need-returns-3
 returns-3 c = search needs
 
--- src/lib.rt:192:5
 print-place-requires-2 : tie.Need-print-place-requires-2
 print-place-requires-2 c κs = search needs
 
--- src/lib.rt:192:29
 print-record-requires : tie.Need-print-record-requires
 print-record-requires c κs =
     let a = c .before .before .before .before .before .before .before .before .before .args in
@@ -55,11 +40,9 @@ print-record-requires c κs =
     let inside = place-inside (a .sep) (now (a .s)) (a .r .«record») (a .r .field) here in
     (omega (arith, inside .0, c .before .before .before .before .before .before .before .before .before .pre), omega (arith, inside .1, c .before .before .before .before .before .before .before .before .before .pre), here .is .within)
 
--- src/lib.rt:183:1
 returns-4 : tie.Need-returns-4
 returns-4 c = search needs
 
--- src/lib.rt:183:1
 returns-5 : tie.Need-returns-5
 returns-5 c = search needs
 

@@ -1,3 +1,4 @@
+-- The line holds a column for each byte.
 use borrow.Author.Needs.{needs}
 use denote.Ref.{now}
 use mathlib.Core.Path.{sym, ap, _∙_}
@@ -5,42 +6,30 @@ use lib.ListN.{length, length-map}
 use Rattle.pointing.specs.Shown.{columnOf}
 use Rattle.pointing.proofs.print_columns.Statement.{statement}
 use Rattle.pointing.proofs.print_columns.Tie as tie
-use Rattle.pointing.proofs.print_columns.Reads as reads
-use Rattle.pointing.proofs.print_columns.Lts as lts
-use Rattle.pointing.proofs.columns.Reads as columns-reads
-use Rattle.stream.proofs.print.Reads as print-reads
 
--- src/lib.rt:158:16
 columns-requires : tie.Need-columns-requires
 columns-requires c κs = search needs
 
--- src/lib.rt:160:11
 array-share-prefix-line : tie.Need-array-share-prefix-line
 array-share-prefix-line c = search needs
 
--- src/lib.rt:160:11
 slice-aggregate-print : tie.Need-slice-aggregate-print
 slice-aggregate-print c =
     let part = now (c .before .before .before .args .part) in
     sym (ap length (c .before .columns .ensures) ∙ length-map part columnOf)
 
--- src/lib.rt:160:5
 print-requires : tie.Need-print-requires
 print-requires c κs = search needs
 
--- src/lib.rt:160:32
 slice-aggregate-print-2 : tie.Need-slice-aggregate-print-2
 slice-aggregate-print-2 c = search needs
 
--- src/lib.rt:160:26
 print-requires-2 : tie.Need-print-requires-2
 print-requires-2 c κs = search needs
 
--- src/lib.rt:155:1
 returns : tie.Need-returns
 returns c = search needs
 
--- src/lib.rt:155:1
 returns-2 : tie.Need-returns-2
 returns-2 c = search needs
 

@@ -1,47 +1,35 @@
+-- The line holds the blanks and the mark.
 use borrow.Author.Needs.{needs}
 use mathlib.Core.Path.{sym, ap, _∙_}
 use lib.ListN.{length}
 use Rattle.pointing.proofs.Marks.{mark-length}
 use Rattle.pointing.proofs.print_mark.Statement.{statement}
 use Rattle.pointing.proofs.print_mark.Tie as tie
-use Rattle.pointing.proofs.print_mark.Reads as reads
-use Rattle.pointing.proofs.print_mark.Lts as lts
-use Rattle.pointing.proofs.mark.Reads as mark-reads
-use Rattle.stream.proofs.print.Reads as print-reads
 
--- src/lib.rt:167:16
 mark-requires : tie.Need-mark-requires
 mark-requires c κs = search needs
 
--- src/lib.rt:168:17
 add-width : tie.Need-add-width
 add-width c = search needs
 
--- src/lib.rt:169:11
 array-share-prefix-line : tie.Need-array-share-prefix-line
 array-share-prefix-line c = search needs
 
--- src/lib.rt:169:11
 slice-aggregate-print : tie.Need-slice-aggregate-print
 slice-aggregate-print c = sym (ap length (c .before .mark .ensures) ∙ mark-length (c .before .before .args .n))
 
--- src/lib.rt:169:5
 print-requires : tie.Need-print-requires
 print-requires c κs = search needs
 
--- src/lib.rt:169:36
 slice-aggregate-print-2 : tie.Need-slice-aggregate-print-2
 slice-aggregate-print-2 c = search needs
 
--- src/lib.rt:169:30
 print-requires-2 : tie.Need-print-requires-2
 print-requires-2 c κs = search needs
 
--- src/lib.rt:164:1
 returns : tie.Need-returns
 returns c = search needs
 
--- src/lib.rt:164:1
 returns-2 : tie.Need-returns-2
 returns-2 c = search needs
 
