@@ -9,7 +9,7 @@ use Rattle.layout.specs.Layout.{Rule}
 use Rattle.grammar.specs.Sets.{Sets, Nothing, Kind, Then, AnyNumber, OneOrMore, Either}
 use Rattle.flow.specs.Letters.{ZHD, ZPT, ZPD, HDR, GSP, GS2, GS7, SUP, BMU, SB1, CM1, SB2, CM2, SUB, TA2, SP7}
 use Rattle.flow.specs.Letters.{P0012001, P0181002, P0133001, P0134001, P0138001, P0164001, B, G, H, M, X, Z, nought}
-use Rattle.flow.specs.Publication.{Flow, PublishedKind, kind, keyed, keyedWithin, repeatingWithin}
+use Rattle.flow.specs.Publication.{Flow, PublishedKind, kind, kindWithin, keyed, keyedWithin, repeatingWithin}
 use Rattle.flow.specs.Publication.{text, int, dec, date, datetime, bol, period, null, optional, is}
 
 -- every flow: file type text(8) =flow, from role text(1), from id text(4), to role text(1), to id text(4), creation datetime
@@ -74,7 +74,7 @@ p0133 =
       kinds =
           header P0133001 (is (text 1) Z) (is (text 1) Z)
           ∷ kind SB1 (is (text 1) H ∷ is (text 1) M ∷ text 8 ∷ date ∷ is (text 1) M ∷ [])
-          ∷ kind CM1 (optional (text 2) ∷ int 7 ∷ dec 4 1 ∷ int 7 ∷ [])
+          ∷ kindWithin CM1 (optional (text 2) ∷ int 7 ∷ dec 4 1 ∷ int 7 ∷ []) SB1
           ∷ footer
           ∷ [];
       feed = false;
@@ -89,7 +89,7 @@ p0134 =
       kinds =
           header P0134001 (is (text 1) Z) (is (text 1) Z)
           ∷ kind SB2 (is (text 1) M ∷ text 8 ∷ date ∷ is (text 1) M ∷ [])
-          ∷ kind CM2 (optional (text 2) ∷ int 7 ∷ int 7 ∷ dec 4 1 ∷ dec 4 1 ∷ [])
+          ∷ kindWithin CM2 (optional (text 2) ∷ int 7 ∷ int 7 ∷ dec 4 1 ∷ dec 4 1 ∷ []) SB2
           ∷ footer
           ∷ [];
       feed = false;

@@ -11,7 +11,7 @@ use Rattle.grammar.specs.Sets.{Sets}
 use Rattle.grammar.specs.Walk.{At, start, last, may}
 
 -- a kind: its name, its fields from 2 on, its key field (0: none), may a key be equal to the one before, and the kind that heads the
--- set in which the key stands ([]: the file)
+-- set in which it stands, where its key starts anew ([]: none, and a key runs through the file)
 pub record PublishedKind : Type 0 where
   pub name : List ℕ
   pub fields : List Rule
@@ -91,10 +91,13 @@ optional r = record { type = r .type; mark = opt }
 abbrev pub is : Rule → List ℕ → Rule
 is r value = record { type = r .type; mark = fixed value }
 
--- a kind without a key, one whose key runs through the file, one whose key starts anew at each record that heads its set, and one whose
--- key does so and may be equal to the one before
+-- a kind without a key, in no set and within one; one whose key runs through the file, one whose key starts anew at each record that
+-- heads its set, and one whose key does so and may be equal to the one before
 abbrev pub kind : List ℕ → List Rule → PublishedKind
 kind n fields = record { name = n; fields = fields; key = 0; repeats = false; within = [] }
+
+abbrev pub kindWithin : List ℕ → List Rule → List ℕ → PublishedKind
+kindWithin n fields head = record { name = n; fields = fields; key = 0; repeats = false; within = head }
 
 abbrev pub keyed : List ℕ → List Rule → ℕ → PublishedKind
 keyed n fields key = record { name = n; fields = fields; key = key; repeats = false; within = [] }

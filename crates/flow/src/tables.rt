@@ -1,6 +1,6 @@
 // The six flows as numbers; layout's specs/Numbers.antt says how they are read, and table_of is proved to give the published flows.
 // First how many rows there are, and if the last line feed is needed. Then a row for the start and one for each kind: name, followers
-// as a set (the first kind is the lowest bit), place of its rules, how many rules, key field, kind that heads the key's set. Then the
+// as a set (the first kind is the lowest bit), place of its rules, how many rules, key field, kind that heads its set. Then the
 // rules, three numbers a field: type, mark, place of its fixed value in the bytes. Zeros fill up what a smaller flow leaves.
 pub const P0012: [u32; 110] = [
     7, // rows
@@ -258,7 +258,7 @@ pub const P0133: [u32; 110] = [
     65, // CM1: its rules
     4, // CM1: 4 rules
     0, // CM1: no key
-    0, // CM1: no head
+    2, // CM1: within SB1
     0x5A5054, // ZPT
     0b0, // ZPT: then nothing
     77, // ZPT: its rules
@@ -373,7 +373,7 @@ pub const P0134: [u32; 110] = [
     62, // CM2: its rules
     5, // CM2: 5 rules
     0, // CM2: no key
-    0, // CM2: no head
+    2, // CM2: within SB2
     0x5A5054, // ZPT
     0b0, // ZPT: then nothing
     77, // ZPT: its rules

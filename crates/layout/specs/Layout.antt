@@ -20,7 +20,8 @@ abbrev pub noRule : Rule
 noRule = record { type = types.Null; mark = bare }
 
 -- a kind: its three bytes, the kinds that may follow it (as a set), the rules of its fields from 2 on,
--- its key field (0: no key), may a key be equal to the one before, and the kind that heads the set in which the key stands (0: the file)
+-- its key field (0: no key), may a key be equal to the one before, and the kind that heads the set in which it stands, where its key
+-- starts anew (0: none, and a key runs through the file)
 pub record KindRow : Type 0 where
   pub name : List ℕ
   pub next : ℕ

@@ -106,7 +106,7 @@ pub fn may_repeat(t: &[u32], k: usize) -> bool
     row_word(t, k, 4) / 1024 == 1
 }
 
-// The kind that heads the set in which the key of kind k stands, or 0 for the file.
+// The kind that heads the set in which kind k stands, or 0 where it stands in none.
 pub fn head_of(t: &[u32], k: usize) -> usize
     ensures { λ r. ⌜ ((bytes : List ℕ) → r ≡ row (layoutOf (now (t .entry)) bytes) k .head) × (r < 2 ^ 32) ⌝ }
 {
