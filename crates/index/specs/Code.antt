@@ -38,16 +38,16 @@ scanned ks k (j ∷ js) = cond (eqb (headOf ks j) k) 1 0 + cond (eqb j k) 0 (sca
 unfoldable pub parentIn : List ℕ → ℕ → ℕ → ℕ
 parentIn last h own = cond (eqb (getD last h 0) 0) own (getD last h 0)
 
--- the state once record n has been entered: its kind is k, it stands from at on and len bytes long, and `behind` are the kinds behind it
-abbrev pub entered : Kinds → Filling → ℕ → ℕ → ℕ → ℕ → List ℕ → Filling
-entered ks s n at len k behind =
+-- the state once record n has been entered: its kind is k, it stands from at on, len bytes long, and has so many children
+abbrev pub entered : Kinds → Filling → ℕ → ℕ → ℕ → ℕ → ℕ → Filling
+entered ks s n at len k count =
     record {
       records = n;
       at = at + len + 1;
       entries = s .entries + 1;
       heads = s .heads;
       last = set (s .last) k (s .entries + 1);
-      entry = entry n at (parentIn (s .last) (headOf ks k) (s .entries + 1)) (scanned ks k behind);
+      entry = entry n at (parentIn (s .last) (headOf ks k) (s .entries + 1)) count;
     }
 
 -- reading on after n records, from the byte at: the first of the records from there that may have children is entered
@@ -55,7 +55,7 @@ unfoldable pub readOn : Kinds → Filling → ℕ → ℕ → List (List ℕ) �
 readOn ks s n at [] = s
 readOn ks s n at (r ∷ rs) =
     cond (getD (s .heads) (kindIn ks r) false)
-    (entered ks s (n + 1) at (length r) (kindIn ks r) (map (kindIn ks) rs))
+    (entered ks s (n + 1) at (length r) (kindIn ks r) (scanned ks (kindIn ks r) (map (kindIn ks) rs)))
     (readOn ks s (n + 1) (at + length r + 1) rs)
 
 -- the state at the next entry

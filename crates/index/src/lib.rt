@@ -5,8 +5,9 @@ use record::BAR;
 use record::Cursor;
 use record::Step;
 ghost use mathlib.Core.Path.{_≡_};
+ghost use mathlib.Core.Bool.{cond};
 ghost use mathlib.Core.List.{_++_};
-ghost use Prim.Native.Nat.{_<_, _≤_, _+_, _-_, _*_};
+ghost use Prim.Native.Nat.{_<_, _≤_, _+_, _-_, _*_, _^_};
 ghost use lib.ListN.{length, set, take, drop};
 ghost use Rattle.flow.specs.Flows.{flowNamed};
 ghost use Rattle.index.specs.Entries.{kindsFor, kindsOf, mayHead, headsIn, entriesOf, entriesFor, FilledRight, numbersOf, CellsRight};
@@ -75,6 +76,13 @@ fn heads_of(t: &[u32]) -> [bool; 33]
     heads
 }
 
+// Yes counts one, no counts none.
+fn one_if(b: bool) -> usize
+    ensures { λ r. ⌜ (r ≡ cond b 1 0) × (r ≤ 1) ⌝ }
+{
+    if b { 1 } else { 0 }
+}
+
 // How many records of a file may have children.
 fn count_entries(t: &[u32], heads: &[bool; 33], f: &[u8]) -> usize
     requires { ⌜ now heads ≡ headsOf (kindsIn (now t)) ⌝ }
@@ -86,9 +94,8 @@ fn count_entries(t: &[u32], heads: &[bool; 33], f: &[u8]) -> usize
         let Step::Record { start, end, next } = records.step(f) else {
             return count;
         };
-        if heads[fault::kind_of(t, BAR, &f[start..end])] {
-            count += 1;
-        }
+        let k = fault::kind_of(t, BAR, &f[start..end]);
+        count += one_if(heads[k]);
         records = next;
     }
 }
@@ -104,9 +111,7 @@ fn children_from(t: &[u32], f: &[u8], at: usize, k: usize) -> usize
             return count;
         };
         let j = fault::kind_of(t, BAR, &f[start..end]);
-        if layout::head_of(t, j) == k {
-            count += 1;
-        }
+        count += one_if(layout::head_of(t, j) == k);
         if j == k {
             return count;
         }
@@ -149,10 +154,10 @@ pub fn start(t: &[u32]) -> Filling
     }
 }
 
-// The state once record n has been entered: its kind is k, and it stands from a up to e.
-fn enter(t: &[u32], f: &[u8], s: Filling, n: usize, k: usize, a: usize, e: usize) -> Filling
-    requires { ⌜ (s .entries < n) × (k ≤ 32) × (a ≤ e) × (e ≤ length (now f)) ⌝ }
-    ensures { λ r. ⌜ r ≡ entered (kindsIn (now (t .entry))) s n a (e - a) k (kindsOf (kindsIn (now (t .entry))) (drop (e + 1) (now (f .entry)))) ⌝ }
+// The state once record n has been entered: its kind is k, it stands from a up to e, and has so many children.
+fn enter(t: &[u32], s: Filling, n: usize, k: usize, a: usize, e: usize, children: usize) -> Filling
+    requires { ⌜ (s .entries < n) × (k ≤ 32) × (a ≤ e) × (e + 1 < 2 ^ 64) ⌝ }
+    ensures { λ r. ⌜ r ≡ entered (kindsIn (now (t .entry))) s n a (e - a) k children ⌝ }
 {
     let own = s.entries + 1;
     let heads = s.heads;
@@ -169,7 +174,7 @@ fn enter(t: &[u32], f: &[u8], s: Filling, n: usize, k: usize, a: usize, e: usize
             record: n,
             place: a,
             parent: parent,
-            children: children_from(t, f, e + 1, k),
+            children: children,
         },
     }
 }
@@ -189,7 +194,8 @@ pub fn advance(t: &[u32], f: &[u8], s: Filling) -> Filling
         n += 1;
         let k = fault::kind_of(t, BAR, &f[start..end]);
         if heads[k] {
-            return enter(t, f, s, n, k, start, end);
+            let children = children_from(t, f, next.at, k);
+            return enter(t, s, n, k, start, end, children);
         }
         records = next;
     }

@@ -1,72 +1,83 @@
+-- `children_from` is right: those counted, with those to be found from the cursor on, are all.
+use borrow.Author.Needs.{needs}
+use mathlib.Core.Path.{_≡_, _∙_}
+use Prim.Native.Nat.{_≤_, _+_, _-_}
+use mathlib.Core.List.{[]}
+use native.Mathlib.Omega.{arith}
+use lib.ListN.{length, drop}
+use denote.Ref.{now}
+use Rattle.index.specs.Entries.{kindsOf}
+use Rattle.index.specs.Code.{kindsIn, scanned}
+use Rattle.index.proofs.Tables.{kind-found, head-read}
+use Rattle.index.proofs.Scans.{kinds-next, kinds-end, child-on, child-last, children-done}
 use Rattle.index.proofs.children_from.Statement.{statement}
 use Rattle.index.proofs.children_from.Tie as tie
-use Rattle.index.proofs.children_from.Reads as reads
-use Rattle.index.proofs.children_from.Lts as lts
-use Rattle.fault.proofs.kind_of.Reads as kind-of-reads
-use Rattle.layout.proofs.head_of.Reads as head-of-reads
-use Rattle.record.proofs.Cursor.step.Reads as step-reads
 
 abbrev Inv-loop : tie.InvT-loop
-Inv-loop t f at k count₀ records₀ count records = ?
+Inv-loop t f at k count₀ records₀ count records = (count ≤ records .at) × (count + scanned (kindsIn t) k (kindsOf (kindsIn t) (drop (records .at) f)) ≡ scanned (kindsIn t) k (kindsOf (kindsIn t) (drop at f)))
 
 abbrev μ-loop : tie.MeasureT-loop
-μ-loop t f at k count₀ records₀ count records = ?
+μ-loop t f at k count₀ records₀ count records = length f - records .at
 
--- src/lib.rt:102:5
 loop-holds : tie.Need-loop-holds Inv-loop μ-loop
-loop-holds c = ?
+loop-holds c = (omega arith, omega arith)
 
--- src/lib.rt:103:49
 step-requires : tie.Need-step-requires Inv-loop μ-loop
-step-requires c κs = ?
+step-requires c κs = search needs
 
--- src/lib.rt:103:28
 enum-known-start : tie.Need-enum-known-start Inv-loop μ-loop
-enum-known-start c = ?
+enum-known-start c = search needs
 
--- src/lib.rt:104:13
 enum-told : tie.Need-enum-told Inv-loop μ-loop
-enum-told c = ?
+enum-told c = search needs
 
--- src/lib.rt:104:13
 returns : tie.Need-returns Inv-loop μ-loop
-returns c = ?
+returns c = let a = c .before .before .before .before .before .before .args in
+    let none = rw (c .enum-told .given .1) at (c .before .before .step .ensures) in
+    children-done (kindsIn (now (a .t))) (a .k) (c .before .before .before .loop .count) _ (c .before .before .before .loop .inv .1) (kinds-end (kindsIn (now (a .t))) (now (a .f)) (c .before .before .before .loop .records .at) none)
 
--- src/lib.rt:106:40
 sub-kind-of : tie.Need-sub-kind-of Inv-loop μ-loop
-sub-kind-of c = ?
+sub-kind-of c = let x = rw (c .before .start .given .1) at (c .before .before .before .step .ensures) in
+    x .ordered
 
--- src/lib.rt:106:40
 part-kind-of-start : tie.Need-part-kind-of-start Inv-loop μ-loop
-part-kind-of-start c = ?
+part-kind-of-start c = let x = rw (c .before .start .given .1) at (c .before .before .before .step .ensures) in
+    x .ordered
 
--- src/lib.rt:106:40
 part-kind-of-end : tie.Need-part-kind-of-end Inv-loop μ-loop
-part-kind-of-end c = ?
+part-kind-of-end c = let x = rw (c .before .start .given .1) at (c .before .before .before .step .ensures) in
+    x .within
 
--- src/lib.rt:106:13
 kind-of-requires : tie.Need-kind-of-requires Inv-loop μ-loop
-kind-of-requires c κs = ?
+kind-of-requires c κs = search needs
 
--- src/lib.rt:107:12
 head-of-requires : tie.Need-head-of-requires Inv-loop μ-loop
-head-of-requires c κs = ?
+head-of-requires c κs = search needs
 
--- src/lib.rt:108:13
+one-if-requires : tie.Need-one-if-requires Inv-loop μ-loop
+one-if-requires c κs = search needs
+
 add-count : tie.Need-add-count Inv-loop μ-loop
-add-count c = ?
+add-count c = let x = rw (c .before .before .before .before .before .start .given .1) at (c .before .before .before .before .before .before .before .step .ensures) in
+    omega (arith, c .before .before .before .before .before .before .before .before .loop .inv .0, c .one-if .ensures .1, x .onward, x .next-within)
 
--- src/lib.rt:111:13
 returns-2 : tie.Need-returns-2 Inv-loop μ-loop
-returns-2 c = ?
+returns-2 c = let a = c .before .before .before .before .before .before .before .before .before .before .before .before .args in
+    let t = now (a .t) in
+    let x = rw (c .before .before .before .before .before .before .start .given .1) at (c .before .before .before .before .before .before .before .before .step .ensures) in
+    let next = kinds-next (kindsIn t) (now (a .f)) x (c .before .before .before .kind-of .ensures .0 [] ∙ kind-found t _) in
+    child-last (kindsIn t) (a .k) (c .before .before .before .before .before .before .before .before .before .loop .count) _ (c .before .before .before .before .before .before .before .before .before .loop .inv .1) next (c .before .before .head-of .ensures .0 [] ∙ head-read t _) (c .before .one-if .ensures .0) (c .if1 .taken)
 
--- src/lib.rt:102:5
 loop-less : tie.Need-loop-less Inv-loop μ-loop
-loop-less c = ?
+loop-less c = let x = rw (c .before .before .before .before .before .before .start .given .1) at (c .before .before .before .before .before .before .before .before .step .ensures) in
+    omega (arith, x .onward, x .next-within)
 
--- src/lib.rt:102:5
 loop-again : tie.Need-loop-again Inv-loop μ-loop
-loop-again c = ?
+loop-again c = let a = c .before .before .before .before .before .before .before .before .before .before .before .before .args in
+    let t = now (a .t) in
+    let x = rw (c .before .before .before .before .before .before .start .given .1) at (c .before .before .before .before .before .before .before .before .step .ensures) in
+    let next = kinds-next (kindsIn t) (now (a .f)) x (c .before .before .before .kind-of .ensures .0 [] ∙ kind-found t _) in
+    (omega (arith, c .before .before .before .before .before .before .before .before .before .loop .inv .0, c .before .one-if .ensures .1, x .onward), child-on (kindsIn t) (a .k) (c .before .before .before .before .before .before .before .before .before .loop .count) _ (c .before .before .before .before .before .before .before .before .before .loop .inv .1) next (c .before .before .head-of .ensures .0 [] ∙ head-read t _) (c .before .one-if .ensures .0) (c .if1 .left))
 
 pub children-from-spec : {M : Type 1} → statement M
 children-from-spec =
@@ -84,6 +95,7 @@ children-from-spec =
     part-kind-of-end
     kind-of-requires
     head-of-requires
+    one-if-requires
     add-count
     returns-2
     loop-less

@@ -1,75 +1,79 @@
+-- `count_entries` is right: those counted, with those among the records from the cursor on, are all.
+use borrow.Author.Needs.{needs}
+use mathlib.Core.Path.{_≡_, ap, _∙_}
+use Prim.Native.Nat.{_≤_, _+_, _-_}
+use mathlib.Core.Bool.{Bool, false}
+use mathlib.Core.List.{List, []}
+use native.Mathlib.Omega.{arith}
+use lib.ListN.{length, getD, drop}
+use denote.Ref.{now}
+use Rattle.index.specs.Entries.{kindsOf, headsIn}
+use Rattle.index.specs.Code.{kindsIn}
+use Rattle.index.proofs.Tables.{kind-found, head-listed}
+use Rattle.index.proofs.Scans.{kinds-next, kinds-end, head-on, heads-done}
 use Rattle.index.proofs.count_entries.Statement.{statement}
 use Rattle.index.proofs.count_entries.Tie as tie
-use Rattle.index.proofs.count_entries.Reads as reads
-use Rattle.index.proofs.count_entries.Lts as lts
-use Rattle.fault.proofs.kind_of.Reads as kind-of-reads
-use Rattle.record.proofs.Cursor.step.Reads as step-reads
 
 abbrev Inv-loop : tie.InvT-loop
-Inv-loop t heads f count₀ records₀ count records = ?
+Inv-loop t heads f count₀ records₀ count records = (count ≤ records .at) × (count + headsIn (kindsIn t) (kindsOf (kindsIn t) (drop (records .at) f)) ≡ headsIn (kindsIn t) (kindsOf (kindsIn t) f))
 
 abbrev μ-loop : tie.MeasureT-loop
-μ-loop t heads f count₀ records₀ count records = ?
+μ-loop t heads f count₀ records₀ count records = length f - records .at
 
--- src/lib.rt:85:5
 loop-holds : tie.Need-loop-holds Inv-loop μ-loop
-loop-holds c = ?
+loop-holds c = (omega arith, omega arith)
 
--- src/lib.rt:86:49
 step-requires : tie.Need-step-requires Inv-loop μ-loop
-step-requires c κs = ?
+step-requires c κs = search needs
 
--- src/lib.rt:86:28
 enum-known-start : tie.Need-enum-known-start Inv-loop μ-loop
-enum-known-start c = ?
+enum-known-start c = search needs
 
--- src/lib.rt:87:13
 enum-told : tie.Need-enum-told Inv-loop μ-loop
-enum-told c = ?
+enum-told c = search needs
 
--- src/lib.rt:87:13
 returns : tie.Need-returns Inv-loop μ-loop
-returns c = ?
+returns c = let a = c .before .before .before .before .before .before .args in
+    let none = rw (c .enum-told .given .1) at (c .before .before .step .ensures) in
+    heads-done (kindsIn (now (a .t))) (c .before .before .before .loop .count) _ (c .before .before .before .loop .inv .1) (kinds-end (kindsIn (now (a .t))) (now (a .f)) (c .before .before .before .loop .records .at) none)
 
--- src/lib.rt:89:41
 sub-kind-of : tie.Need-sub-kind-of Inv-loop μ-loop
-sub-kind-of c = ?
+sub-kind-of c = let x = rw (c .before .start .given .1) at (c .before .before .before .step .ensures) in
+    x .ordered
 
--- src/lib.rt:89:41
 part-kind-of-start : tie.Need-part-kind-of-start Inv-loop μ-loop
-part-kind-of-start c = ?
+part-kind-of-start c = let x = rw (c .before .start .given .1) at (c .before .before .before .step .ensures) in
+    x .ordered
 
--- src/lib.rt:89:41
 part-kind-of-end : tie.Need-part-kind-of-end Inv-loop μ-loop
-part-kind-of-end c = ?
+part-kind-of-end c = let x = rw (c .before .start .given .1) at (c .before .before .before .step .ensures) in
+    x .within
 
--- src/lib.rt:89:18
 kind-of-requires : tie.Need-kind-of-requires Inv-loop μ-loop
-kind-of-requires c κs = ?
+kind-of-requires c κs = search needs
 
--- src/lib.rt:89:12
-element-copy-out-if1 : tie.Need-element-copy-out-if1 Inv-loop μ-loop
-element-copy-out-if1 c = ?
+element-copy-out-one-if : tie.Need-element-copy-out-one-if Inv-loop μ-loop
+element-copy-out-one-if c = let h = c .kind-of .ensures .1 in
+    omega (arith, h)
 
--- src/lib.rt:90:13
+one-if-requires : tie.Need-one-if-requires Inv-loop μ-loop
+one-if-requires c κs = search needs
+
 add-count : tie.Need-add-count Inv-loop μ-loop
-add-count c = ?
+add-count c = let x = rw (c .before .before .before .before .before .start .given .1) at (c .before .before .before .before .before .before .before .step .ensures) in
+    omega (arith, c .before .before .before .before .before .before .before .before .loop .inv .0, c .one-if .ensures .1, x .onward, x .next-within)
 
--- src/lib.rt:85:5
 loop-less : tie.Need-loop-less Inv-loop μ-loop
-loop-less c = ?
+loop-less c = let x = rw (c .before .before .before .before .before .start .given .1) at (c .before .before .before .before .before .before .before .step .ensures) in
+    omega (arith, x .onward, x .next-within)
 
--- src/lib.rt:85:5
 loop-again : tie.Need-loop-again Inv-loop μ-loop
-loop-again c = ?
-
--- src/lib.rt:85:5
-loop-less-2 : tie.Need-loop-less-2 Inv-loop μ-loop
-loop-less-2 c = ?
-
--- src/lib.rt:85:5
-loop-again-2 : tie.Need-loop-again-2 Inv-loop μ-loop
-loop-again-2 c = ?
+loop-again c = let a = c .before .before .before .before .before .before .before .before .before .before .before .args in
+    let t = now (a .t) in
+    let x = rw (c .before .before .before .before .before .start .given .1) at (c .before .before .before .before .before .before .before .step .ensures) in
+    let next = kinds-next (kindsIn t) (now (a .f)) x (c .before .before .kind-of .ensures .0 [] ∙ kind-found t _) in
+    let head = head-listed (kindsIn t) (now (a .heads)) _ (c .before .before .before .before .before .before .before .before .before .before .before .pre) (c .before .before .kind-of .ensures .1) in
+    (omega (arith, c .before .before .before .before .before .before .before .before .loop .inv .0, c .one-if .ensures .1, x .onward), head-on (kindsIn t) (c .before .before .before .before .before .before .before .before .loop .count) _ (c .before .before .before .before .before .before .before .before .loop .inv .1) _ next head (c .one-if .ensures .0))
 
 pub count-entries-spec : {M : Type 1} → statement M
 count-entries-spec =
@@ -86,9 +90,8 @@ count-entries-spec =
     part-kind-of-start
     part-kind-of-end
     kind-of-requires
-    element-copy-out-if1
+    element-copy-out-one-if
+    one-if-requires
     add-count
     loop-less
-    loop-again
-    loop-less-2
-    loop-again-2)
+    loop-again)

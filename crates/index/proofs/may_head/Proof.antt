@@ -1,51 +1,57 @@
+-- `may_head` is right: the rows from j on have one within kind k where the table has one.
+use borrow.Author.Needs.{needs}
+use mathlib.Core.Path.{_≡_, sym, _∙_}
+use Prim.Native.Nat.{_≤_, _-_}
+use mathlib.Core.List.{[]}
+use native.Mathlib.Omega.{arith}
+use lib.ListN.{drop}
+use denote.Ref.{now}
+use Rattle.layout.specs.Numbers.{rowCount}
+use Rattle.index.specs.Entries.{mayHead, someIs}
+use Rattle.index.specs.Code.{kindsIn}
+use Rattle.index.proofs.Tables.{head-read, heads-length, none-within-nothing, all-asked, within-found, not-within, none-asked}
 use Rattle.index.proofs.may_head.Statement.{statement}
 use Rattle.index.proofs.may_head.Tie as tie
-use Rattle.index.proofs.may_head.Reads as reads
-use Rattle.index.proofs.may_head.Lts as lts
-use Rattle.layout.proofs.head_of.Reads as head-of-reads
-use Rattle.layout.proofs.row_count.Reads as row-count-reads
 
 abbrev Inv-loop : tie.InvT-loop
-Inv-loop t k n j₀ j = ?
+Inv-loop t k n j₀ j = (1 ≤ k) × (n ≡ rowCount t) × (mayHead (kindsIn t) k ≡ someIs k (drop j (kindsIn t .heads)))
 
 abbrev μ-loop : tie.MeasureT-loop
-μ-loop t k n j₀ j = ?
+μ-loop t k n j₀ j = n - j
 
--- src/lib.rt:52:9
 returns : tie.Need-returns Inv-loop μ-loop
-returns c = ?
+returns c = none-within-nothing (kindsIn (now (c .before .before .args .t))) (c .before .before .args .k) (c .if1 .taken)
 
--- src/lib.rt:54:9
 row-count-requires : tie.Need-row-count-requires Inv-loop μ-loop
-row-count-requires c κs = ?
+row-count-requires c κs = search needs
 
--- src/lib.rt:56:5
 loop-holds : tie.Need-loop-holds Inv-loop μ-loop
-loop-holds c = ?
+loop-holds c = (omega (arith, c .before .if1 .left), c .row-count .ensures, all-asked (kindsIn (now (c .before .before .before .args .t))) (c .before .before .before .args .k) (omega (arith, c .before .if1 .left)))
 
--- src/lib.rt:57:12
 head-of-requires : tie.Need-head-of-requires Inv-loop μ-loop
-head-of-requires c κs = ?
+head-of-requires c κs = search needs
 
--- src/lib.rt:58:13
 returns-2 : tie.Need-returns-2 Inv-loop μ-loop
-returns-2 c = ?
+returns-2 c = let t = now (c .before .before .before .before .before .before .before .args .t) in
+    let i = c .before .before .before .loop .inv in
+    let here = sym (head-read t (c .before .before .before .loop .j)) ∙ sym (c .before .head-of .ensures .0 []) ∙ c .if2 .taken in
+    sym (i .2 ∙ within-found (kindsIn t) (c .before .before .before .before .before .before .before .args .k) (c .before .before .before .loop .j) (omega (arith, c .before .before .loop-test .taken, i .1, heads-length t)) here)
 
--- src/lib.rt:60:9
 add-j : tie.Need-add-j Inv-loop μ-loop
-add-j c = ?
+add-j c = search needs
 
--- src/lib.rt:56:5
 loop-less : tie.Need-loop-less Inv-loop μ-loop
-loop-less c = ?
+loop-less c = search needs
 
--- src/lib.rt:56:5
 loop-again : tie.Need-loop-again Inv-loop μ-loop
-loop-again c = ?
+loop-again c = let t = now (c .before .before .before .before .before .before .before .args .t) in
+    let i = c .before .before .before .loop .inv in
+    (i .0, i .1, i .2 ∙ not-within (kindsIn t) (c .before .before .before .before .before .before .before .args .k) (c .before .before .before .loop .j) (omega (arith, c .before .before .loop-test .taken, i .1, heads-length t)) (λ e. c .if2 .left (c .before .head-of .ensures .0 [] ∙ head-read t (c .before .before .before .loop .j) ∙ e)))
 
--- src/lib.rt:48:1
 returns-3 : tie.Need-returns-3 Inv-loop μ-loop
-returns-3 c = ?
+returns-3 c = let t = now (c .before .before .before .before .before .args .t) in
+    let i = c .before .loop .inv in
+    sym (i .2 ∙ none-asked (kindsIn t) (c .before .before .before .before .before .args .k) (c .before .loop .j) (omega (arith, c .loop-test .left, i .1, heads-length t)))
 
 pub may-head-spec : {M : Type 1} → statement M
 may-head-spec =

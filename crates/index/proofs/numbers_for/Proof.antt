@@ -1,22 +1,23 @@
+-- `numbers_for` is right: the numbers of the flow's table have the kinds of the flow as published.
+use mathlib.Core.Path.{ap, _∙_}
+use Prim.Native.Nat.{ℕ}
+use Rattle.flow.specs.Publication.{layoutFor}
+use Rattle.flow.specs.Flows.{flowAt}
+use Rattle.index.specs.Entries.{kindsBy}
+use Rattle.index.proofs.Tables.{unfixed}
 use borrow.Author.Needs.{needs}
 use Rattle.index.proofs.numbers_for.Statement.{statement}
 use Rattle.index.proofs.numbers_for.Tie as tie
-use Rattle.index.proofs.numbers_for.Reads as reads
-use Rattle.index.proofs.numbers_for.Lts as lts
-use Rattle.flow.proofs.flow_number.Reads as flow-number-reads
-use Rattle.flow.proofs.table_of.Reads as table-of-reads
 
--- src/lib.rt:202:32
 flow-number-requires : tie.Need-flow-number-requires
 flow-number-requires c κs = search needs
 
--- src/lib.rt:202:9
 table-of-requires : tie.Need-table-of-requires
 table-of-requires c κs = search needs
 
--- src/lib.rt:199:1
 returns : tie.Need-returns
-returns c = ?
+returns c = let table = c .before .table-of .result in
+    unfixed (table .numbers) (table .fixed) ∙ ap kindsBy (c .before .table-of .ensures ∙ ap (λ (n : ℕ). layoutFor (flowAt n)) (c .before .before .flow-number .ensures .0))
 
 pub numbers-for-spec : {M : Type 1} → statement M
 numbers-for-spec = tie.close (tie.spec flow-number-requires table-of-requires returns)
