@@ -2,5 +2,9 @@ pub mod Tables
 pub mod Scans
 pub mod Parents
 pub mod Stating
-pub mod Reading
+pub mod Onward
 pub mod Counts
+pub mod Children
+pub mod Reading
+pub mod Again
+pub mod Stored

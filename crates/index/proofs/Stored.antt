@@ -63,8 +63,9 @@ pub after-one : (ks : Kinds) (f : List ℕ) (i : ℕ) → advanced ks f (after k
 unfolding after
 after-one ks f i = refl
 
-pub all-stored : (ks : Kinds) (f : List ℕ) (n : ℕ) (ys : List Entry) → n ≤ length ys → n ≤ length (entriesOf ks f) → storing (read ks f) n ys ≡ stored ks f n ys
-all-stored ks f n ys h g = storing-is (entriesOf ks f) (read ks f) (entry-read ks f) n ys h g
+pub all-stored : (ks : Kinds) (f : List ℕ) → length (ks .names) ≤ 32 → (n : ℕ) (ys : List Entry) → n ≤ length ys → n ≤ length (entriesOf ks f)
+    → storing (read ks f) n ys ≡ stored ks f n ys
+all-stored ks f few n ys h g = storing-is (entriesOf ks f) (read ks f) (entry-read ks f few) n ys h g
 
 -- ---- what is to be stored fits into the list, is there, and makes the list that is promised: by the reader's answer, then by the room
 record Agrees (es old : List Entry) (said : Indexed) : Type 0 where

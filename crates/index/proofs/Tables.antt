@@ -5,7 +5,7 @@ use mathlib.Core.Bool.{Bool, true, false, cond, _&&_, _||_}
 use mathlib.Core.List.{List, [], _∷_, map}
 use native.Mathlib.Omega.{arith}
 use lib.Dec.{eqb, leb}
-use lib.ListN.{length, getD, drop, length-map, drop-of-length-le, List·getD-map}
+use lib.ListN.{length, getD, drop, length-map, length-drop, drop-of-length-le, List·getD-map}
 use lib.Seq.{drop-cons}
 use native.Mathlib.Numerals.{add-one}
 use borrow.Author.Tests.{le-leb, lt-leb, eq-eqb, ne-eqb}
@@ -63,6 +63,12 @@ module _ (t : List ℕ) where
   pub heads-length : length (kindsIn t .heads) ≡ rowCount t
   unfolding kindsBy
   heads-length = length-map (layoutOf t [] .rows) headIn ∙ rows-length t []
+
+  -- a table has at most 32 kinds
+  pub few-kinds : length (kindsIn t .names) ≤ 32
+  unfolding kindsBy
+  few-kinds =
+      omega (arith, length-map (drop 1 (layoutOf t [] .rows)) nameIn, length-drop 1 (layoutOf t [] .rows), rows-length t [])
 
 -- the search for a kind that stands within kind k
 module _ (ks : Kinds) (k : ℕ) where

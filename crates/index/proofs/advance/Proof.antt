@@ -9,7 +9,7 @@ use lib.ListN.{length, getD}
 use denote.Ref.{now}
 use Rattle.index.specs.Code.{kindsIn, entered, advanced}
 use Rattle.index.proofs.Tables.{kind-found}
-use Rattle.index.proofs.Reading.{from, no-more, enters, passes}
+use Rattle.index.proofs.Onward.{from, no-more, enters, passes}
 use Rattle.index.proofs.advance.Statement.{statement}
 use Rattle.index.proofs.advance.Tie as tie
 

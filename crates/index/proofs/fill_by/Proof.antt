@@ -50,6 +50,7 @@ use Rattle.index.specs.Entries.{Kinds, entriesOf}
 use Rattle.index.specs.Code.{kindsIn, starting, advanced, after}
 use Rattle.index.proofs.Again.{LentAgain, lends-again, comes-back}
 use Rattle.index.proofs.Reading.{in-step}
+use Rattle.index.proofs.Tables.{few-kinds}
 use Rattle.index.proofs.Stored.{storing, length-storing, read, after-none, after-one, all-stored}
 use Rattle.index.proofs.Entry as T
 use Rattle.index.proofs.Entry.Laws as T′
@@ -228,7 +229,7 @@ module _ {M : Type 1} (𝓤 : URA M) (H : Heap 𝓤) (A : Atoms 𝓤) (W : Given
     exits =
         qed W (‵ (Mut n) ∷ ‵ (flft κ q) ∷ Toks ∷ ‵ Own₂ ∷ ‵ Own₃ ∷ ‵ OwnN ∷ []) ∵
         suffices ! _ (ends-at 𝓤 H A f.ended stayed (f.clauses 𝓤 H A at-mem run) W (((κ, (κ₂, (κ₃, tt))), (q, (q₂, (q₃, tt))), tt, a, at), tt) vunit tt (rows n, (tt, (tt, (tt, tt)))) (same-length, (tt, (tt, (tt, tt))))) $
-        says ! (all-stored ks fs n ys fits there) $
+        says ! (all-stored ks fs (few-kinds ts) n ys fits there) $
         rewrite ! 0 (λ (m : ℕ). ‵ (MutSlice (named 0) κ R .own (x (rows n)) (sliceVal (b, o) m ∷ []))) same-length refl $ move ! (1 ∷ 2 ∷ []) $ join ! $ frame ! $
         move ! (2 ∷ 3 ∷ []) $ fjoin ! $ move ! (2 ∷ 0 ∷ []) $ fjoin ! $ move ! (1 ∷ 0 ∷ []) $ fjoin ! $ frame ! $ feqI ! (List Val) (vunit ∷ []) (vunit ∷ []) refl $ done !
 
