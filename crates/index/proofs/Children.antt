@@ -117,9 +117,9 @@ module _ (ks : Kinds) where
     none-after before (j ∷ js) q e at later =
         let short = last-le k before in
         let no-child = adds-none n before j (λ p.
-            let found = parent-kind before j q (p ∙ e) in
-            let kind = sym (last-is (headOf ks j) before q found) ∙ at in
-            absurd (omega (arith, later, e, ap (λ (h : ℕ). lastOf h before) kind, found))) in
+        let found = parent-kind before j q (p ∙ e) in
+        let kind = sym (last-is (headOf ks j) before q found) ∙ at in
+        absurd (omega (arith, later, e, ap (λ (h : ℕ). lastOf h before) kind, found))) in
         let still = List·getD-append before (j ∷ []) 0 q (omega (arith, later, short, e)) ∙ at in
         let more = none-after (before ++ j ∷ []) js q e still (keeps (eqb j k) refl) in
         omega (arith, no-child, more)

@@ -6,5 +6,6 @@ pub mod Onward
 pub mod Counts
 pub mod Children
 pub mod Reading
-pub mod Again
 pub mod Stored
+pub mod Cells
+pub mod Again

@@ -287,7 +287,7 @@ module _ (ks : Kinds) where
       came-by : (n at : ℕ) (b : List (List ℕ)) (r : List ℕ) (rest : List (List ℕ)) (x : Past f s n at b (r ∷ rest)) (t : Bool) → mayHead ks (kindIn ks r) ≡ t
           → entriesFrom ks f (kinds b) (kinds (r ∷ rest)) ≡ e ∷ es
           → (Past f s (n + 1) (at + length r + 1) (b ++ r ∷ []) rest → entriesFrom ks f (kinds (b ++ r ∷ [])) (kinds rest) ≡ e ∷ es
-            → Came (readOn ks s (n + 1) (at + length r + 1) rest) e es)
+          → Came (readOn ks s (n + 1) (at + length r + 1) rest) e es)
           → Came (readOn ks s n at (r ∷ rest)) e es
       unfolding entriesFrom readOn
       came-by n at b r rest x true may list later =

@@ -67,43 +67,57 @@ pub all-stored : (ks : Kinds) (f : List ℕ) → length (ks .names) ≤ 32 → (
     → storing (read ks f) n ys ≡ stored ks f n ys
 all-stored ks f few n ys h g = storing-is (entriesOf ks f) (read ks f) (entry-read ks f few) n ys h g
 
--- ---- what is to be stored fits into the list, is there, and makes the list that is promised: by the reader's answer, then by the room
-record Agrees (es old : List Entry) (said : Indexed) : Type 0 where
-  fits : toStore said ≤ length old
-  there : toStore said ≤ length es
-  makes : take (toStore said) es ++ drop (toStore said) old ≡ listBy said es old
+-- ---- what `begin` gives for so much room: its number fits, as many entries are there, and they are those that its answer promises; by the reader's answer, then by the room
+abbrev pub promised : Indexed → List Entry → List Entry
+promised (Refused r) es = []
+promised (Filled n m) es = es
 
-agrees-by : (t : Bool) (n : ℕ) (es old : List Entry) → leb (length es) (length old) ≡ t → Agrees es old (must t (Refused (whole 19)) (Filled n (length es)))
-unfolding listBy
-agrees-by true n es old e = record {
-  fits = leb-true (length es) (length old) e;
-  there = omega arith;
-  makes = ap (λ (l : List Entry). l ++ drop (length es) old) (take-length es);
-}
-agrees-by false n es old e = record { fits = omega arith; there = omega arith; makes = refl }
+pub record Agrees (es : List Entry) (room : ℕ) (b : Begun) : Type 0 where
+  pub fits : b .count ≤ room
+  pub there : b .count ≤ length es
+  pub makes : take (b .count) es ≡ promised (b .answer) es
 
-agrees : (j : Judged) (es old : List Entry) → Agrees es old (indexedBy j es (length old))
-unfolding indexedBy listBy
-agrees (files.Refused r) es old = record { fits = omega arith; there = omega arith; makes = refl }
-agrees (files.Accepted n) es old = agrees-by (leb (length es) (length old)) n es old refl
+abbrev giving : Indexed → Begun
+giving said = record { answer = said; count = toStore said }
+
+agrees-by : (t : Bool) (n : ℕ) (es : List Entry) (room : ℕ) → leb (length es) room ≡ t → Agrees es room (giving (must t (Refused (whole 19)) (Filled n (length es))))
+agrees-by true n es room e = record { fits = leb-true (length es) room e; there = omega arith; makes = take-length es }
+agrees-by false n es room e = record { fits = omega arith; there = omega arith; makes = refl }
+
+agrees : (j : Judged) (es : List Entry) (room : ℕ) → Agrees es room (giving (indexedBy j es room))
+unfolding indexedBy
+agrees (files.Refused r) es room = record { fits = omega arith; there = omega arith; makes = refl }
+agrees (files.Accepted n) es room = agrees-by (leb (length es) room) n es room refl
+
+-- `fill` and the filling of cells know the flow's kinds by their table
+pub agreed : (name f : List ℕ) (room : ℕ) (b : Begun) → b ≡ begun name f room → (ks : Kinds) → ks ≡ kindsFor (flowNamed name) → Agrees (entriesOf ks f) room b
+agreed name f room b is ks same =
+    subst (λ (c : Begun). Agrees (entriesOf ks f) room c) (sym is)
+    (subst (λ (k : Kinds). Agrees (entriesOf k f) room (begun name f room)) (sym same) (agrees (withPlace bar f (verdict name f)) (entriesFor name f) room))
 
 -- ---- what `fill` shows of the number that `begin` gave, and what it makes of the list that `fill_by` left
-module _ (name f : List ℕ) (old : List Entry) (b : Begun) (is : b ≡ begun name f (length old)) where
-  all-agree : Agrees (entriesFor name f) old (answerFor name f (length old))
-  all-agree = agrees (withPlace bar f (verdict name f)) (entriesFor name f) old
+list-made : (said : Indexed) (es old : List Entry) → promised said es ++ drop (toStore said) old ≡ listBy said es old
+unfolding listBy
+list-made (Refused r) es old = refl
+list-made (Filled n m) es old = refl
 
+module _ (name f : List ℕ) (old : List Entry) (b : Begun) (is : b ≡ begun name f (length old)) where
   pub count-fits : b .count ≤ length old
-  count-fits = subst (λ (c : Begun). c .count ≤ length old) (sym is) (all-agree .fits)
+  count-fits = agreed name f (length old) b is (kindsFor (flowNamed name)) refl .fits
 
   module _ (t : List ℕ) (same : kindsIn t ≡ kindsFor (flowNamed name)) where
+    all-agree : Agrees (entriesOf (kindsIn t) f) (length old) b
+    all-agree = agreed name f (length old) b is (kindsIn t) same
+
     pub count-there : b .count ≤ length (entriesOf (kindsIn t) f)
-    count-there =
-        subst (λ (ks : Kinds). b .count ≤ length (entriesOf ks f)) (sym same)
-        (subst (λ (c : Begun). c .count ≤ length (entriesFor name f)) (sym is) (all-agree .there))
+    count-there = all-agree .there
 
     pub filled-right : (new : List Entry) → new ≡ stored (kindsIn t) f (b .count) old → FilledRight name f old new (b .answer)
     unfolding indexed listed
     filled-right new left = record {
       says = ap (λ (c : Begun). paper (c .answer)) is;
-      holds = left ∙ (λ i. stored (same i) f (is i .count) old) ∙ all-agree .makes;
+      holds = left
+          ∙ ap (λ (es : List Entry). es ++ drop (b .count) old) (all-agree .makes)
+          ∙ (λ i. promised (is i .answer) (entriesOf (same i) f) ++ drop (is i .count) old)
+          ∙ list-made (answerFor name f (length old)) (entriesFor name f) old;
     }

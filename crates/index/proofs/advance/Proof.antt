@@ -84,9 +84,12 @@ loop-again c = let a = c .before .before .before .before .before .before .before
     let t = now (a .t) in
     let i = c .before .before .before .before .before .before .before .loop .inv in
     let x = rw (c .before .before .before .before .start .given .1) at (c .before .before .before .before .before .before .step .ensures) in
-    let other = ap (λ (bs : List Bool). getD bs (c .before .kind-of .result) false) (sym (i .0)) ∙ c .if1 .left in
-    (i .0, omega (arith, i .1), omega (arith, i .2, x .onward),
-      sym (passes (kindsIn t) (now (a .f)) (a .s) x (c .before .before .before .before .before .before .before .loop .n) (c .before .kind-of .result) (c .before .kind-of .ensures .0 [] ∙ kind-found t _) other) ∙ i .3)
+    let other = ap (λ (bs : List Bool). getD bs (c .before .kind-of .result) false) (sym (i .0)) ∙ c .if1 .left in (
+      i .0,
+      omega (arith, i .1),
+      omega (arith, i .2, x .onward),
+      sym (passes (kindsIn t) (now (a .f)) (a .s) x (c .before .before .before .before .before .before .before .loop .n) (c .before .kind-of .result) (c .before .kind-of .ensures .0 [] ∙ kind-found t _) other) ∙ i .3,
+    )
 
 pub advance-spec : {M : Type 1} → statement M
 advance-spec =

@@ -1,34 +1,31 @@
+-- `fill_cells` is right: what `begin` gives for a quarter as many entries is what is said, and as many are put.
+use borrow.Author.Needs.{needs}
+use denote.Ref.{now}
+use Rattle.index.proofs.Cells.{cells-fit, cells-right}
 use Rattle.index.proofs.fill_cells.Statement.{statement}
 use Rattle.index.proofs.fill_cells.Tie as tie
-use Rattle.index.proofs.fill_cells.Reads as reads
-use Rattle.index.proofs.fill_cells.Lts as lts
-use Rattle.index.proofs.begin.Reads as begin-reads
-use Rattle.index.proofs.fill_cells_by.Reads as fill-cells-by-reads
-use Rattle.index.proofs.numbers_for.Reads as numbers-for-reads
 
--- src/lib.rt:316:9
 begin-requires : tie.Need-begin-requires
-begin-requires c κs = ?
+begin-requires c κs = search needs
 
--- src/lib.rt:317:13
 numbers-for-requires : tie.Need-numbers-for-requires
-numbers-for-requires c κs = ?
+numbers-for-requires c κs = search needs
 
--- src/lib.rt:318:26
 slice-aggregate-fill-cells-by : tie.Need-slice-aggregate-fill-cells-by
-slice-aggregate-fill-cells-by c = ?
+slice-aggregate-fill-cells-by c = search needs
 
--- src/lib.rt:318:5
 fill-cells-by-requires : tie.Need-fill-cells-by-requires
-fill-cells-by-requires c κs = ?
+fill-cells-by-requires c κs = let a = c .before .before .before .before .before .before .before .args in
+    cells-fit (now (a .flow)) (now (a .f)) (now (a .cells)) (c .before .before .before .begin .result) (c .before .before .before .begin .ensures) (c .before .before .numbers-for .result) (c .before .before .numbers-for .ensures)
 
--- src/lib.rt:313:1
 same-length : tie.Need-same-length
-same-length c = ?
+same-length c = search needs
 
--- src/lib.rt:313:1
 returns : tie.Need-returns
-returns c = ?
+returns c = let a = c .before .before .before .before .before .before .before .before .before .before .args in
+    let b = c .before .before .before .before .before .before .begin in
+    let t = c .before .before .before .before .before .numbers-for in
+    cells-right (now (a .flow)) (now (a .f)) (now (a .cells)) (b .result) (b .ensures) (t .result) (t .ensures) (c .before .before .fill-cells-by .last .0) (c .before .before .fill-cells-by .ensures)
 
 pub fill-cells-spec : {M : Type 1} → statement M
 fill-cells-spec =
