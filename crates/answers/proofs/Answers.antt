@@ -27,6 +27,7 @@ use Rattle.value.specs.Value.{isThere, fieldValue, valueBy, valueIn, valued}
 use Rattle.sheet.specs.Sheets.{footer, made, barLine, butLast, sheetOf}
 use Rattle.sheet.specs.Write.{written}
 use Rattle.sheet.specs.Read.{readTo}
+use Rattle.index.specs.Entries.{kindsBy, someIs, mayHead, headsIn, lastOf, parentOf, childrenFrom, parentEntry, entriesFrom, indexedBy, listBy, indexed, listed}
 use Rattle.answers.proofs.Cases.{copies, Case, given, expected, Right, both-right, bytesBefore, behind}
 use Rattle.answers.proofs.Refusals.{refusals, neighbours}
 use Rattle.answers.proofs.Steps.{steps}
@@ -40,13 +41,14 @@ use Rattle.answers.proofs.P0138.{p0138}
 use Rattle.answers.proofs.P0164.{p0164}
 use Rattle.answers.proofs.SameDate.{sameDate}
 use Rattle.answers.proofs.PointAt.{pointAt}
+use Rattle.answers.proofs.BesideFile.{lent, besideFile}
 
 -- the cases that are computed; where they fail, fewer of them at a time show which
 unfoldable pub computed : List Case
-computed = refusals ++ neighbours ++ steps ++ p0012 ++ p0181 ++ p0133 ++ p0134 ++ p0138 ++ p0164 ++ sameDate ++ pointAt
+computed = refusals ++ neighbours ++ steps ++ p0012 ++ p0181 ++ p0133 ++ p0134 ++ p0138 ++ p0164 ++ sameDate ++ pointAt ++ besideFile
 
 computed-right : Right computed
-unfolding computed refusals neighbours steps p0012 p0181 p0133 p0134 p0138 p0164 sameDate pointAt copies given expected bytesBefore behind joined onto records fields field extent turned holds words addRecord checksum checksumOf minus unsigned plain intForm intValue decForm decValue spelled decimalIn decimal leap daysIn isDay isDate isTime textForm bolForm periodRange form range valueOf widthRight filled fieldAnswer judgedAs fieldJudged keyOrder numberOrder textOrder digitsOrder wholeOrder among find flowNumber isDigit isText fieldFault fieldsFault lastKind keyWith keyBefore placeFault shapeFault keyFault footerFault kindFault fault checkedFrom ended judgedBy verdict fieldStart placeAt judged isThere fieldValue valueBy valueIn valued footer made barLine butLast sheetOf written readTo kindsIn followersFrom stepped
+unfolding computed refusals neighbours steps p0012 p0181 p0133 p0134 p0138 p0164 sameDate pointAt besideFile lent copies given expected bytesBefore behind joined onto records fields field extent turned holds words addRecord checksum checksumOf minus unsigned plain intForm intValue decForm decValue spelled decimalIn decimal leap daysIn isDay isDate isTime textForm bolForm periodRange form range valueOf widthRight filled fieldAnswer judgedAs fieldJudged keyOrder numberOrder textOrder digitsOrder wholeOrder among find flowNumber isDigit isText fieldFault fieldsFault lastKind keyWith keyBefore placeFault shapeFault keyFault footerFault kindFault fault checkedFrom ended judgedBy verdict fieldStart placeAt judged isThere fieldValue valueBy valueIn valued footer made barLine butLast sheetOf written readTo kindsIn followersFrom stepped kindsBy someIs mayHead headsIn lastOf parentOf childrenFrom parentEntry entriesFrom indexedBy listBy indexed listed
 computed-right = refl
 
 unfoldable pub table : List Case

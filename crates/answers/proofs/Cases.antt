@@ -21,6 +21,9 @@ use Rattle.sheet.specs.Write.{written, output, paper}
 use Rattle.sheet.specs.Write as sheet
 use Rattle.sheet.specs.Read.{readTo}
 use Rattle.sheet.specs.declared.Transfer.{Transfer}
+use Rattle.index.specs.Entries.{indexed, listed}
+use Rattle.index.specs.Entries as index
+use Rattle.index.specs.declared.Entry.{Entry}
 
 -- lines with a line feed after each
 abbrev pub lines : List String → List ℕ
@@ -43,7 +46,7 @@ unfolding copies
 copies-length zero b = refl
 copies-length (suc n) b = ap suc (copies-length n b)
 
--- what a public part answers; of the writer and the sheet reader also the bytes of the lent output after it
+-- what a public part answers; of the writer and the sheet reader also the bytes of the lent output after it, of the index its list
 pub data Said : Type 0 where
   ofFile : judge.Reply → Said
   ofSheet : sheet.Reply → List ℕ → Said
@@ -51,6 +54,7 @@ pub data Said : Type 0 where
   ofField : field.Reply → Said
   ofSum : ℕ → Said
   ofStep : Stepped → Said
+  ofIndex : index.Reply → List Entry → Said
 
 -- a call, and after it what the papers say
 pub data Case : Type 0 where
@@ -68,6 +72,8 @@ pub data Case : Type 0 where
   summing : List ℕ → ℕ → Case
   -- a flow, and kinds end to end
   stepping : String → String → Stepped → Case
+  -- a flow, a file and a lent list
+  indexing : String → List ℕ → List Entry → index.Reply → List Entry → Case
 
 -- the answer of the writer or the sheet reader, and the lent output after it
 abbrev pub transferred : Transfer → List ℕ → List ℕ → Said
@@ -82,6 +88,7 @@ given (asking flow f n k r) = ofValue (valued (bytes flow) f n k)
 given (ofType t m s r) = ofField (fieldJudged t m (bytes s))
 given (summing s n) = ofSum (checksumOf s)
 given (stepping flow kinds r) = ofStep (stepped (bytes flow) (bytes kinds))
+given (indexing flow f old r new) = ofIndex (indexed (bytes flow) f (length old)) (listed (bytes flow) f old)
 
 -- the answer by the papers
 unfoldable pub expected : Case → Said
@@ -92,6 +99,7 @@ expected (asking flow f n k r) = ofValue r
 expected (ofType t m s r) = ofField r
 expected (summing s n) = ofSum n
 expected (stepping flow kinds r) = ofStep r
+expected (indexing flow f old r new) = ofIndex r new
 
 -- all of some cases are answered as the papers say
 abbrev pub Right : List Case → Type 0

@@ -11,4 +11,5 @@ pub mod P0138
 pub mod P0164
 pub mod SameDate
 pub mod PointAt
+pub mod BesideFile
 pub mod Answers

@@ -9,3 +9,4 @@ pub mod Reading
 pub mod Stored
 pub mod Cells
 pub mod Again
+pub mod Examples
