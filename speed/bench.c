@@ -120,11 +120,23 @@ static void screen_reads(void) { screen_read(name, 8, file, file_len, screen_out
 static void peer_sums(void) { peer_said = (struct peer_answer){ .record = peer_checksum(file, file_len) }; }
 static void screen_sums(void) { screen_said[0] = 0, screen_said[1] = screen_checksum(file, file_len), screen_said[2] = 0; }
 
+// The peer has no index: the screen's own judge stands in its place, so that the ratio says what the entries cost beyond judging.
+static screen_cell cells[4 * 65536];
+static void own_judges(void) {
+    screen_judges();
+    peer_said = (struct peer_answer){ .refused = screen_said[0] != 0, .record = screen_said[1] };
+}
+static void screen_indexes(void) {
+    screen_index(name, 8, file, file_len, cells, sizeof cells / sizeof *cells, screen_said);
+    screen_said[2] = 0;
+}
+
 static const struct { const char *name; void (*peer)(void), (*screen)(void); } parts[] = {
     { "judge", peer_judges, screen_judges },
     { "write", peer_writes, screen_writes },
     { "read", peer_reads, screen_reads },
     { "checksum", peer_sums, screen_sums },
+    { "index", own_judges, screen_indexes },
 };
 
 // Processor time, so that other programs on the machine count less.
