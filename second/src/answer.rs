@@ -1,9 +1,10 @@
 //! The answer to a case, as `nightly` prints it: words parted by tabs, a line a case.
-//! A refusal has five words, the place last, and so has judge's `ok`; lines of write and read have
-//! a sixth. All other lines have four; a last word of no bytes keeps its tab.
+//! A refusal has five words, the place last, and so has judge's `ok`; lines of write, read and index
+//! have a sixth. All other lines have four; a last word of no bytes keeps its tab.
 
 use crate::bytes::{checksum, records_of, LINE_FEED};
 use crate::field::{judge_field, Value};
+use crate::index::{index, Entry, Indexed};
 use crate::judge::{judge, value};
 use crate::refusal::Refusal;
 use crate::sheet::{read, write, Done};
@@ -13,7 +14,8 @@ use crate::stream::Ask;
 /// The line that ends a run at a header it can't read.
 pub const BAD_HEADER: &[u8] = b"bad header\n";
 
-/// An answer's line, its line feed in, and behind it the bytes of a file or sheet made.
+/// An answer's line, its line feed in, and behind it the bytes of a file or sheet made, or a line
+/// for each entry of an index.
 pub fn answer(ask: &Ask) -> Vec<u8> {
     match ask {
         Ask::Judge { flow, file } => match judge(flow, file) {
@@ -28,6 +30,7 @@ pub fn answer(ask: &Ask) -> Vec<u8> {
         Ask::Step { flow, kinds } => step_line(step(flow, kinds)),
         Ask::Write { flow, room, sheet } => in_room(*room, |room| write(flow, sheet, room)),
         Ask::Read { flow, room, file } => in_room(*room, |room| read(flow, file, room)),
+        Ask::Index { flow, room, file } => in_list(*room, |list| index(flow, file, list)),
     }
 }
 
@@ -79,4 +82,31 @@ fn in_room(size: usize, put: impl FnOnce(&mut [u8]) -> Result<Done, Refusal>) ->
         }
         Err(refusal) => line(&format!("{}\t{}", refused(refusal), kept)),
     }
+}
+
+/// Lends a list whose entries hold a pattern, and tells whether every entry that should keep it did.
+/// The pattern's numbers are far above all that an index can hold.
+fn in_list(size: usize, fill: impl FnOnce(&mut [Entry]) -> Result<Indexed, Refusal>) -> Vec<u8> {
+    let pattern = |place: usize| {
+        let number = |of: usize| usize::MAX - 4 * place - of;
+        Entry { record: number(0), place: number(1), parent: number(2), children: number(3) }
+    };
+    let mut list: Vec<Entry> = (0..size).map(pattern).collect();
+    let indexed = fill(&mut list);
+    let written = indexed.map_or(0, |indexed| indexed.entries);
+    let kept = (written..size).all(|place| list[place] == pattern(place));
+    let kept = if kept { 1 } else { 0 };
+    match indexed {
+        Ok(Indexed { records, entries }) => {
+            let mut answer = line(&format!("ok\t0\t{}\t{}\t0\t{}", records, entries, kept));
+            list[..entries].iter().for_each(|entry| answer.extend(entry_line(entry)));
+            answer
+        }
+        Err(refusal) => line(&format!("{}\t{}", refused(refusal), kept)),
+    }
+}
+
+fn entry_line(entry: &Entry) -> Vec<u8> {
+    let Entry { record, place, parent, children } = entry;
+    line(&format!("{}\t{}\t{}\t{}", record, place, parent, children))
 }

@@ -59,18 +59,30 @@ impl Compared {
     }
 }
 
-/// One answer: a line, and behind an accepted write or read its stated bytes and a line feed.
+/// One answer: a line, and behind an accepted write or read its stated bytes and a line feed, behind
+/// an accepted index its stated lines.
 fn take_answer<'a>(answers: &mut &'a [u8], ask: &Ask) -> &'a [u8] {
     let all = *answers;
     let line = take_line(answers);
-    if matches!(ask, Ask::Write { .. } | Ask::Read { .. }) && line.starts_with(b"ok\t") {
-        let stated = line.split(|&byte| byte == b'\t').nth(3);
-        let stated = stated.and_then(|word| std::str::from_utf8(word).ok()?.parse().ok());
-        let length = stated.map_or(0, |bytes: usize| bytes.saturating_add(1)).min(answers.len());
-        *answers = &answers[length..];
-        return &all[..line.len() + length];
+    match (ask, stated(line)) {
+        (Ask::Write { .. } | Ask::Read { .. }, Some(bytes)) => {
+            *answers = &answers[bytes.saturating_add(1).min(answers.len())..];
+        }
+        (Ask::Index { .. }, Some(entries)) => {
+            // The number is another program's: no more lines are taken than there are.
+            for _ in 0..entries.min(answers.len()) {
+                take_line(answers);
+            }
+        }
+        _ => {}
     }
-    line
+    &all[..all.len() - answers.len()]
+}
+
+/// How much an accepted line states to come behind it: its fourth word.
+fn stated(line: &[u8]) -> Option<usize> {
+    let words = line.strip_prefix(b"ok\t")?;
+    std::str::from_utf8(words.split(|&byte| byte == b'\t').nth(2)?).ok()?.parse().ok()
 }
 
 /// A line with its line feed, or what is left where there is none.

@@ -42,6 +42,10 @@ impl Pen<'_> {
         match &**set {
             Set::Done => {}
             Set::One(kind) => self.kind(kind, depth),
+            Set::Headed(head, under) => {
+                self.kind(head, depth);
+                self.set(under, depth);
+            }
             Set::Then(first, second) => match &**second {
                 Set::AnyNumber(again) if Arc::ptr_eq(first, again) => {
                     self.frame("one or more", &[first], depth)

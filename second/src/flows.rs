@@ -2,7 +2,7 @@
 //! Which keys may be equal is document 02's C-11.
 
 use crate::field::{Mark, Type};
-use crate::grammar::{any_number, either, in_turn, one, one_or_more, Kind, Set};
+use crate::grammar::{any_number, either, headed, in_turn, one, one_or_more, Kind, Set};
 use std::sync::{Arc, Mutex};
 
 pub struct Flow {
@@ -73,8 +73,8 @@ fn p0012() -> Flow {
 }
 
 fn p0181() -> Flow {
-    let sup_set = in_turn([one(b"SUP"), one_or_more(one(b"BMU"))]);
-    let gs7_set = in_turn([one(b"GS7"), any_number(sup_set)]);
+    let sup_set = headed(b"SUP", one_or_more(one(b"BMU")));
+    let gs7_set = headed(b"GS7", any_number(sup_set));
     flow(
         "P0181002",
         ("", ""),
@@ -92,7 +92,7 @@ fn p0133() -> Flow {
     flow(
         "P0133001",
         ("=Z", "=Z"),
-        any_number(in_turn([one(b"SB1"), any_number(one(b"CM1"))])),
+        any_number(headed(b"SB1", any_number(one(b"CM1")))),
         vec![
             layout(b"SB1", "text(1) =H, text(1) =M, text(8), date, text(1) =M"),
             layout(b"CM1", "text(2) opt, int(7), dec(4,1), int(7)"),
@@ -104,7 +104,7 @@ fn p0134() -> Flow {
     flow(
         "P0134001",
         ("=Z", "=Z"),
-        any_number(in_turn([one(b"SB2"), any_number(one(b"CM2"))])),
+        any_number(headed(b"SB2", any_number(one(b"CM2")))),
         vec![
             layout(b"SB2", "text(1) =M, text(8), date, text(1) =M"),
             layout(b"CM2", "text(2) opt, int(7), int(7), dec(4,1), dec(4,1)"),
@@ -125,7 +125,7 @@ fn p0164() -> Flow {
     flow(
         "P0164001",
         ("=G", "=Z"),
-        any_number(in_turn([one(b"SUB"), any_number(one(b"SP7"))])),
+        any_number(headed(b"SUB", any_number(one(b"SP7")))),
         vec![
             layout(b"SUB", "text(1) =B, text(1) =X, text(4), date, text(1) =M"),
             layout(b"SP7", "text(2), text(4), text(1), date, text(2), int(10)").repeating_key(5, b"SUB"),

@@ -12,6 +12,8 @@ pub enum Set {
     /// The list of no kinds.
     Done,
     One(Kind),
+    /// A kind that heads a set, and what may come under it.
+    Headed(Kind, Arc<Set>),
     Then(Arc<Set>, Arc<Set>),
     Either(Arc<Set>, Arc<Set>),
     AnyNumber(Arc<Set>),
@@ -19,6 +21,11 @@ pub enum Set {
 
 pub fn one(kind: &[u8; 3]) -> Arc<Set> {
     Arc::new(Set::One(*kind))
+}
+
+/// The set that a kind heads: the kind, then what comes under it.
+pub fn headed(head: &[u8; 3], under: Arc<Set>) -> Arc<Set> {
+    Arc::new(Set::Headed(*head, under))
 }
 
 /// The sets one after the other.
@@ -52,7 +59,7 @@ impl Set {
     /// Whether the list of no kinds stands under the set.
     pub fn is_complete(&self) -> bool {
         match self {
-            Set::One(_) => false,
+            Set::One(_) | Set::Headed(..) => false,
             Set::Done | Set::AnyNumber(_) => true,
             Set::Then(first, second) => first.is_complete() && second.is_complete(),
             Set::Either(first, second) => first.is_complete() || second.is_complete(),
@@ -65,7 +72,8 @@ impl Set {
         match &**self {
             Set::Done => None,
             Set::One(own) if own == kind => Some(Arc::new(Set::Done)),
-            Set::One(_) => None,
+            Set::Headed(head, under) if head == kind => Some(under.clone()),
+            Set::One(_) | Set::Headed(..) => None,
             Set::Then(first, second) => {
                 let within = first.after(kind).map(|left| then(left, second.clone()));
                 let passed = if first.is_complete() { second.after(kind) } else { None };
@@ -73,6 +81,18 @@ impl Set {
             }
             Set::Either(first, second) => either_left(first.after(kind), second.after(kind)),
             Set::AnyNumber(set) => set.after(kind).map(|left| then(left, self.clone())),
+        }
+    }
+
+    /// What may come under this kind, all of it; None where the kind heads no set.
+    pub fn under(&self, kind: &[u8]) -> Option<&Arc<Set>> {
+        match self {
+            Set::Done | Set::One(_) => None,
+            Set::Headed(head, under) if head == kind => Some(under),
+            Set::Headed(_, set) | Set::AnyNumber(set) => set.under(kind),
+            Set::Then(first, second) | Set::Either(first, second) => {
+                first.under(kind).or_else(|| second.under(kind))
+            }
         }
     }
 }

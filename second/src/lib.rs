@@ -10,6 +10,7 @@ pub mod draw;
 pub mod field;
 pub mod flows;
 pub mod grammar;
+pub mod index;
 pub mod judge;
 pub mod refusal;
 pub mod sheet;

@@ -7,9 +7,11 @@ use crate::field::{Mark, Type};
 pub const LENGTH_LIMIT: usize = 1_114_112;
 /// The greatest RECORD and FIELD that can be asked.
 pub const ASKED_LIMIT: usize = 1_000_000_000;
+/// The greatest ROOM of an index, in entries.
+pub const ENTRIES_LIMIT: usize = 8192;
 
 /// The kinds of case, by the first word of their header.
-pub const CASE_KINDS: [&str; 7] = ["judge", "value", "field", "sum", "step", "write", "read"];
+pub const CASE_KINDS: [&str; 8] = ["judge", "value", "field", "sum", "step", "write", "read", "index"];
 
 /// What a case asks, with its body's bytes.
 #[derive(Debug)]
@@ -21,6 +23,7 @@ pub enum Ask<'a> {
     Step { flow: &'a [u8], kinds: &'a [u8] },
     Write { flow: &'a [u8], room: usize, sheet: &'a [u8] },
     Read { flow: &'a [u8], room: usize, file: &'a [u8] },
+    Index { flow: &'a [u8], room: usize, file: &'a [u8] },
 }
 
 impl Ask<'_> {
@@ -34,6 +37,7 @@ impl Ask<'_> {
             Ask::Step { .. } => 4,
             Ask::Write { .. } => 5,
             Ask::Read { .. } => 6,
+            Ask::Index { .. } => 7,
         }
     }
 }
@@ -105,6 +109,7 @@ fn first_case(stream: &[u8]) -> Option<(Ask<'_>, usize)> {
         [b"step", flow, _] => Ask::Step { flow, kinds: body },
         [b"write", flow, room, _] => Ask::Write { flow, room: number(room, LENGTH_LIMIT)?, sheet: body },
         [b"read", flow, room, _] => Ask::Read { flow, room: number(room, LENGTH_LIMIT)?, file: body },
+        [b"index", flow, room, _] => Ask::Index { flow, room: number(room, ENTRIES_LIMIT)?, file: body },
         _ => return None,
     };
     Some((ask, end + 1 + fixed + length))

@@ -3,6 +3,7 @@
 mod common;
 use common::*;
 use second::answer::answer;
+use second::index::{index, Entry};
 use second::judge::{judge, value};
 use second::refusal::Refusal;
 use second::sheet::{read, write};
@@ -262,4 +263,168 @@ fn c12_numbers_and_order_are_unchanged() {
     assert_eq!(refused_sheet(b"ZHD\tA\nSUB|B\n"), (16, 2, 0, 6));
     // The last line is not ended, and an earlier one is wrong.
     assert_eq!(refused_sheet(b"ZHD\tA\nSUB"), (15, 2, 0, 6));
+}
+
+/// An entry's record, place, parent and children.
+type Row = (usize, usize, usize, usize);
+
+/// What each entry of a lent list holds before.
+const HELD: Row = (99, 98, 97, 96);
+
+/// The answer of an index, records and entries, and all of the list behind it.
+fn indexed(flow: &str, file: &[u8], room: usize) -> (Result<(usize, usize), Pointed>, Vec<Row>) {
+    let (record, place, parent, children) = HELD;
+    let mut list = vec![Entry { record, place, parent, children }; room];
+    let answer = index(flow.as_bytes(), file, &mut list);
+    let rows = list.iter().map(|entry| (entry.record, entry.place, entry.parent, entry.children));
+    (answer.map(|indexed| (indexed.records, indexed.entries)).map_err(pointed), rows.collect())
+}
+
+/// GS7 without SUP at the start, in between and at the end; SUP with several BMU and with one.
+const SETS: [&str; 14] = [
+    "ZHD|P0181002|S|SSAA|P|POOL|20240105120000",
+    "GS7|_A",
+    "GS7|_B",
+    "SUP|AAAA",
+    "BMU|A|20240101||T",
+    "BMU|B|20240101||T",
+    "BMU|C|20240101||T",
+    "SUP|BBBB",
+    "BMU|A|20240101||T",
+    "GS7|_C",
+    "GS7|_C",
+    "SUP|AAAA",
+    "BMU|A|20240101||T",
+    "GS7|_D",
+];
+
+/// The index of these sets. A line feed counts: ZHD takes 42 bytes, GS7 7, SUP 9 and BMU 18.
+const OF_SETS: [Row; 8] = [
+    (2, 42, 1, 0),
+    (3, 49, 2, 2),
+    (4, 56, 2, 3),
+    (8, 119, 2, 1),
+    (10, 146, 5, 0),
+    (11, 153, 6, 1),
+    (12, 160, 6, 1),
+    (14, 187, 8, 0),
+];
+
+#[test]
+fn c13_an_entry_for_each_gs7_and_sup() {
+    assert_eq!(indexed("P0181002", &footed(&SETS), 8), (Ok((15, 8)), OF_SETS.to_vec()));
+}
+
+#[test]
+fn c13_an_entry_for_each_sb1_sb2_and_sub() {
+    let of_small = |flow, room| indexed(flow, &good(flow), room);
+    assert_eq!(of_small("P0133001", 2), (Ok((6, 2)), vec![(2, 42, 1, 2), (5, 99, 2, 0)]));
+    assert_eq!(of_small("P0134001", 1), (Ok((4, 1)), vec![(2, 42, 1, 1)]));
+    assert_eq!(of_small("P0164001", 2), (Ok((7, 2)), vec![(2, 42, 1, 2), (5, 124, 2, 1)]));
+}
+
+#[test]
+fn c13_heads_without_children() {
+    let twice = |flow: &str, head: &str| indexed(flow, &footed(&[lines(flow)[0], head, head]), 2);
+    assert_eq!(twice("P0181002", "GS7|_A"), (Ok((4, 2)), vec![(2, 42, 1, 0), (3, 49, 2, 0)]));
+    assert_eq!(
+        twice("P0133001", "SB1|H|M|OTHER|20240105|M"),
+        (Ok((4, 2)), vec![(2, 42, 1, 0), (3, 67, 2, 0)])
+    );
+    assert_eq!(twice("P0134001", "SB2|M|OTHER|20240105|M"), (Ok((4, 2)), vec![(2, 42, 1, 0), (3, 65, 2, 0)]));
+    assert_eq!(
+        twice("P0164001", "SUB|B|X|SUPP|20240105|M"),
+        (Ok((4, 2)), vec![(2, 42, 1, 0), (3, 66, 2, 0)])
+    );
+}
+
+#[test]
+fn c13_children_of_a_child_are_not_direct() {
+    let one_sup = [&SETS[..2], &SETS[3..7]].concat();
+    assert_eq!(indexed("P0181002", &footed(&one_sup), 2), (Ok((7, 2)), vec![(2, 42, 1, 1), (3, 49, 1, 3)]));
+}
+
+#[test]
+fn c13_no_entry_where_no_record_may_have_children() {
+    let held = vec![HELD; 2];
+    assert_eq!(indexed("P0138001", EXAMPLE, 2), (Ok((4, 0)), held.clone()), "SUB heads no set here");
+    assert_eq!(indexed("P0138001", EXAMPLE, 0), (Ok((4, 0)), vec![]));
+    assert_eq!(indexed("P0012001", &good("P0012001"), 2), (Ok((7, 0)), held.clone()), "nor does HDR");
+    assert_eq!(indexed("P0012001", &good("P0012001"), 0), (Ok((7, 0)), vec![]));
+    for flow in ["P0133001", "P0134001", "P0164001"] {
+        let no_sets = footed(&lines(flow)[..1]);
+        assert_eq!(indexed(flow, &no_sets, 2), (Ok((2, 0)), held.clone()), "{}", flow);
+        assert_eq!(indexed(flow, &no_sets, 0), (Ok((2, 0)), vec![]), "{}", flow);
+    }
+}
+
+#[test]
+fn c13_entries_past_the_last_keep_what_they_held() {
+    let (answer, rows) = indexed("P0181002", &footed(&SETS), 11);
+    assert_eq!(answer, Ok((15, 8)));
+    assert_eq!((&rows[..8], &rows[8..]), (&OF_SETS[..], &[HELD; 3][..]));
+}
+
+#[test]
+fn c13_19_where_the_list_is_too_short() {
+    for room in 0..8 {
+        let untouched = vec![HELD; room];
+        assert_eq!(indexed("P0181002", &footed(&SETS), room), (Err((19, 0, 0, 0)), untouched), "{}", room);
+    }
+    assert_eq!(indexed("P0134001", &good("P0134001"), 0), (Err((19, 0, 0, 0)), vec![]));
+}
+
+#[test]
+fn c13_an_absent_last_line_feed() {
+    let unended = |flow: &str, room| indexed(flow, good(flow).strip_suffix(b"\n").expect("ended"), room);
+    assert_eq!(unended("P0133001", 2), (Ok((6, 2)), vec![(2, 42, 1, 2), (5, 99, 2, 0)]));
+    assert_eq!(unended("P0134001", 1), (Ok((4, 1)), vec![(2, 42, 1, 1)]));
+    assert_eq!(unended("P0164001", 2), (Ok((7, 2)), vec![(2, 42, 1, 2), (5, 124, 2, 1)]));
+    assert_eq!(unended("P0138001", 0), (Ok((4, 0)), vec![]));
+    assert_eq!(unended("P0181002", 9), (Err((15, 11, 0, 199)), vec![HELD; 9]));
+    assert_eq!(unended("P0181002", 0), (Err((15, 11, 0, 199)), vec![]));
+}
+
+/// The sets with one text replaced and the footer right again.
+fn sets_with(old: &str, new: &str) -> Vec<u8> {
+    let rows = String::from_utf8(replaced(SETS.join("\n").as_bytes(), old, new)).expect("plain text");
+    footed(&rows.split('\n').collect::<Vec<_>>())
+}
+
+#[test]
+fn c13_each_of_the_readers_refusals_comes_before_19() {
+    let whole = footed(&SETS);
+    let spoiled: [(Pointed, Vec<u8>); 13] = [
+        ((2, 0, 0, 0), vec![b'\n'; 1_048_577]),
+        ((3, 3, 0, 49), sets_with("_B", &"B".repeat(509))),
+        ((4, 3, 1, 49), sets_with("GS7|_B", "GS8|_B")),
+        ((5, 3, 1, 49), sets_with("GS7|_B", "BMU|A|20240101||T")),
+        ((6, 3, 0, 49), sets_with("_B", "_B|")),
+        ((7, 3, 2, 53), sets_with("_B", "")),
+        ((8, 3, 2, 53), sets_with("_B", " B")),
+        ((9, 3, 2, 53), sets_with("_B", "__B")),
+        ((10, 1, 2, 4), sets_with("P0181002", "P0181003")),
+        ((11, 8, 2, 123), sets_with("BBBB", "AAAA")),
+        ((12, 15, 2, 198), replaced(&whole, "ZPT|15", "ZPT|16")),
+        ((13, 15, 3, 201), replaced(&whole, "_B", "_X")),
+        ((14, 15, 0, 194), whole[..194].to_vec()),
+    ];
+    for (refusal, file) in spoiled {
+        for room in [0, 7, 8, 9] {
+            assert_eq!(indexed("P0181002", &file, room), (Err(refusal), vec![HELD; room]));
+        }
+    }
+    assert_eq!(indexed("P0181003", &whole, 0), (Err((1, 0, 0, 0)), vec![]));
+}
+
+#[test]
+fn c13_the_line_and_the_entries_lines() {
+    let file = footed(&SETS);
+    let header = |room: usize| format!("index\tP0181002\t{}\t{}", room, file.len());
+    let entries = "2\t42\t1\t0\n3\t49\t2\t2\n4\t56\t2\t3\n8\t119\t2\t1\n\
+                   10\t146\t5\t0\n11\t153\t6\t1\n12\t160\t6\t1\n14\t187\t8\t0\n";
+    for room in [8, 9, 8192] {
+        assert_eq!(line(&header(room), &file), format!("ok\t0\t15\t8\t0\t1\n{}", entries));
+    }
+    assert_eq!(line(&header(7), &file), "refused\t19\t0\t0\t0\t1\n");
 }

@@ -3,6 +3,7 @@
 
 use second::bytes::{records_of, BAR, LINE_FEED, TAB};
 use second::cases::Generator;
+use second::index::{index, Entry};
 use second::judge::{judge, value};
 use second::refusal::Refusal;
 use second::sheet::{read, write};
@@ -16,12 +17,15 @@ struct Refused<'a> {
     refusal: Refusal,
 }
 
+const BLANK: Entry = Entry { record: 0, place: 0, parent: 0, children: 0 };
+
 /// The refusal of a case with a file or a sheet, if it has one.
 fn refused<'a>(ask: &Ask<'a>) -> Option<Refused<'a>> {
     let (bytes, parting, refusal) = match *ask {
         Ask::Judge { flow, file } => (file, BAR, judge(flow, file).err()),
         Ask::Value { flow, record, field, file } => (file, BAR, value(flow, file, record, field).err()),
         Ask::Read { flow, room, file } => (file, BAR, read(flow, file, &mut vec![0; room]).err()),
+        Ask::Index { flow, room, file } => (file, BAR, index(flow, file, &mut vec![BLANK; room]).err()),
         Ask::Write { flow, room, sheet } => (sheet, TAB, write(flow, sheet, &mut vec![0; room]).err()),
         _ => return None,
     };
@@ -114,6 +118,11 @@ fn places_in_files_that_are_judged() {
 #[test]
 fn places_in_files_that_are_read() {
     hold("read", 1200, &IN_FILES);
+}
+
+#[test]
+fn places_in_files_to_index() {
+    hold("index", 2000, &IN_FILES);
 }
 
 #[test]

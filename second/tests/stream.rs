@@ -69,6 +69,22 @@ fn answers_to_sheets() {
 }
 
 #[test]
+fn answers_to_indexes() {
+    let file = good("P0133001");
+    let of = |room: usize, length: usize| {
+        answered(&format!("index\tP0133001\t{}\t{}", room, length), &file[..length])
+    };
+    assert_eq!(of(2, file.len()), "ok\t0\t6\t2\t0\t1\n2\t42\t1\t2\n5\t99\t2\t0\n");
+    assert_eq!(of(8192, file.len()), "ok\t0\t6\t2\t0\t1\n2\t42\t1\t2\n5\t99\t2\t0\n");
+    assert_eq!(of(1, file.len()), "refused\t19\t0\t0\t0\t1\n");
+    assert_eq!(of(0, file.len()), "refused\t19\t0\t0\t0\t1\n");
+    assert_eq!(of(0, 124), "refused\t14\t6\t0\t124\t1\n");
+    assert_eq!(answered("index\tP0138001\t0\t88", EXAMPLE), "ok\t0\t4\t0\t0\t1\n");
+    assert_eq!(answered("index\tP0138001\t5\t86", &EXAMPLE[..86]), "refused\t13\t4\t3\t78\t1\n");
+    assert_eq!(answered("index\t\t0000008192\t0", b""), "refused\t1\t0\t0\t0\t1\n");
+}
+
+#[test]
 fn headers_that_cannot_be_read() {
     let bad = [
         "",
@@ -111,6 +127,28 @@ fn headers_that_cannot_be_read() {
 }
 
 #[test]
+fn headers_of_an_index_that_cannot_be_read() {
+    let bad = [
+        "index",
+        "index\tP0138001\t0",
+        "index\tP0138001\t0\t0\t0",
+        "index\tP0138001\t\t0",
+        "index\tP0138001\t-1\t0",
+        "index\tP0138001\t8193\t0",
+        "index\tP0138001\t1114112\t0",
+        "index\tP0138001\t00000008192\t0",
+        "index\tP0138001\t8192\t1114113",
+        "Index\tP0138001\t0\t0",
+    ];
+    for header in bad {
+        assert!(is_bad(&case(header, b"")), "{:?}", header);
+    }
+    assert!(is_bad(b"index\tP0138001\t0\t3\nab"), "a body cut short");
+    assert!(!is_bad(b"index\tP0138001\t8192\t3\nabc"));
+    assert!(!is_bad(b"index\tP0138001\t0\t0\n"));
+}
+
+#[test]
 fn nothing_is_answered_behind_a_bad_header() {
     assert_eq!(cases_of(b"sum\t0\nbad\nsum\t0\n").count(), 2);
 }
@@ -118,9 +156,12 @@ fn nothing_is_answered_behind_a_bad_header() {
 #[test]
 fn the_comparison_finds_every_difference() {
     let sheet = sheet_of(&lines("P0138001"));
+    let sets = good("P0133001");
     let stream = [
         case("judge\tP0138001\t88", EXAMPLE),
         case("write\tP0138001\t100\t72", &sheet),
+        case(&format!("index\tP0133001\t9\t{}", sets.len()), &sets),
+        case("index\tP0138001\t9\t88", EXAMPLE),
         case("sum\t3", b"abc"),
         case("step\tP0133001\t3", b"ZHD"),
         case("value\tP0138001\t9\t2\t88", EXAMPLE),
@@ -129,7 +170,7 @@ fn the_comparison_finds_every_difference() {
     .concat();
     let right = answers(&stream);
     let same = compare(&stream, &right);
-    assert_eq!((same.cases, same.differences, same.kept.len()), (6, 0, 0));
+    assert_eq!((same.cases, same.differences, same.kept.len()), (8, 0, 0));
     for place in 0..right.len() {
         let mut other = right.clone();
         other[place] ^= 1;
@@ -142,6 +183,16 @@ fn the_comparison_finds_every_difference() {
     let none_written =
         replaced(&right, &format!("4\t88\t0\t1\n{}", String::from_utf8_lossy(EXAMPLE)), "4\t0\t0\t1\n");
     assert_eq!(compare(&stream, &none_written).differences, 1);
+    for entries in ["2\t42\t1\t2\n5\t99\t2\t1\n", "5\t99\t2\t0\n2\t42\t1\t2\n"] {
+        let other = replaced(&right, "2\t42\t1\t2\n5\t99\t2\t0\n", entries);
+        assert_eq!(compare(&stream, &other).differences, 1);
+    }
+    let none_entered = replaced(&right, "6\t2\t0\t1\n2\t42\t1\t2\n5\t99\t2\t0\n", "6\t0\t0\t1\n");
+    assert_eq!(compare(&stream, &none_entered).differences, 1);
+    let one_entered = replaced(&right, "6\t2\t0\t1\n2\t42\t1\t2\n", "6\t1\t0\t1\n");
+    assert_eq!(compare(&stream, &one_entered).differences, 1);
+    let far_too_many = replaced(&right, "6\t2\t0\t1\n", "6\t18446744073709551615\t0\t1\n");
+    assert!(compare(&stream, &far_too_many).differences > 0);
     assert_eq!(compare(&stream, &[&right[..], b"more"].concat()).differences, 1);
 }
 
@@ -154,10 +205,19 @@ fn the_comparison_expects_bad_header_where_it_is_due() {
 
 #[test]
 fn the_census_counts_by_kind_and_number() {
-    let stream =
-        [case("judge\tP0138001\t88", EXAMPLE), case("judge\tP0138001\t0", b""), case("sum\t0", b"")].concat();
-    let census = census(&stream).unwrap_or_else(|_| panic!("a good stream"));
-    assert_eq!((census.taken("judge"), census.taken("sum"), census.refused("judge", 14)), (1, 1, 1));
-    assert_eq!(census.not_reached().len(), 17);
-    assert!(census.table().ends_with("refusals not reached: 1 2 3 4 5 6 7 8 9 10 11 12 13 15 16 17 18\n"));
+    let sets = good("P0133001");
+    let stream = [
+        case("judge\tP0138001\t88", EXAMPLE),
+        case("judge\tP0138001\t0", b""),
+        case("sum\t0", b""),
+        case(&format!("index\tP0133001\t2\t{}", sets.len()), &sets),
+        case(&format!("index\tP0133001\t1\t{}", sets.len()), &sets),
+    ];
+    let counted = |stream: &[u8]| census(stream).unwrap_or_else(|_| panic!("a good stream"));
+    let all = counted(&stream.concat());
+    assert_eq!((all.taken("judge"), all.taken("sum"), all.refused("judge", 14)), (1, 1, 1));
+    assert_eq!((all.taken("index"), all.refused("index", 19), all.refused("read", 19)), (1, 1, 0));
+    assert_eq!(all.not_reached().len(), 17);
+    assert!(all.table().ends_with("refusals not reached: 1 2 3 4 5 6 7 8 9 10 11 12 13 15 16 17 18\n"));
+    assert_eq!(counted(&stream[..4].concat()).not_reached().last(), Some(&19));
 }

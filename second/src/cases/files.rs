@@ -158,7 +158,7 @@ pub fn given(draft: &Draft, bytes: Vec<u8>) -> Given {
 }
 
 /// Most files are small, one in some eighty has more than 64 KiB.
-fn size(dice: &mut Dice) -> usize {
+pub fn size(dice: &mut Dice) -> usize {
     if dice.one_in(80) {
         return 70_000;
     }

@@ -6,6 +6,7 @@ pub mod edits;
 pub mod faults;
 pub mod files;
 pub mod footers;
+pub mod heads;
 pub mod keys;
 pub mod parts;
 pub mod sweep;
@@ -13,13 +14,13 @@ pub mod values;
 
 use crate::bytes::{fields_of, records_of};
 use crate::sheet::{made_file, made_sheet};
-use crate::stream::{ASKED_LIMIT, CASE_KINDS, LENGTH_LIMIT};
+use crate::stream::{ASKED_LIMIT, CASE_KINDS, ENTRIES_LIMIT, LENGTH_LIMIT};
 use dice::Dice;
 use files::{given, Given};
 use sweep::{swept, swept_field, Swept};
 
 /// What comes in one round: each kind of case, so many by the dice, so many from a sweep.
-const ROUND: [(&str, usize, usize); 7] = [
+const ROUND: [(&str, usize, usize); 8] = [
     ("judge", 8, 2),
     ("value", 3, 1),
     ("field", 4, 2),
@@ -27,6 +28,7 @@ const ROUND: [(&str, usize, usize); 7] = [
     ("step", 3, 0),
     ("write", 4, 1),
     ("read", 3, 1),
+    ("index", 4, 1),
 ];
 
 /// One place in a round.
@@ -69,19 +71,8 @@ impl Generator {
                 let (Given { flow, bytes }, _) = file(turn, 20, dice);
                 written(b"judge", &flow, "", &bytes)
             }
-            "value" => {
-                let (Given { flow, bytes }, swept) = file(turn, 70, dice);
-                let (record, field) = swept.unwrap_or_else(|| asked_field(&bytes, dice));
-                written(b"value", &flow, &format!("\t{}\t{}", record, field), &bytes)
-            }
-            "field" => {
-                let case = match turn {
-                    Some(turn) => swept_field(turn, dice),
-                    None => parts::field(dice),
-                };
-                let words = format!("\t{}\t{}", case.mark, case.fixed.len());
-                with_fixed(written(b"field", case.form.as_bytes(), &words, &case.bytes), &case)
-            }
+            "value" => value_case(turn, dice),
+            "field" => field_case(turn, dice),
             "sum" => {
                 let bytes = parts::sum_bytes(dice);
                 [format!("sum\t{}\n", bytes.len()).as_bytes(), &bytes].concat()
@@ -92,17 +83,11 @@ impl Generator {
             }
             "write" => {
                 let Given { flow, bytes } = sheet(turn, dice);
-                let room = room(made_file(&bytes).len(), dice);
+                let room = room(made_file(&bytes).len(), LENGTH_LIMIT, dice);
                 written(b"write", &flow, &format!("\t{}", room), &bytes)
             }
-            _ => {
-                let (Given { flow, bytes }, _) = match turn {
-                    None if dice.one_in(LONG_READ) => (files::long_file(dice), None),
-                    _ => file(turn, 45, dice),
-                };
-                let room = room(made_sheet(&bytes).len(), dice);
-                written(b"read", &flow, &format!("\t{}", room), &bytes)
-            }
+            "read" => read_case(turn, dice),
+            _ => index_case(turn, dice),
         }
     }
 
@@ -123,8 +108,41 @@ impl Generator {
     }
 }
 
+fn value_case(turn: Option<usize>, dice: &mut Dice) -> Vec<u8> {
+    let (Given { flow, bytes }, swept) = file(turn, 70, dice);
+    let (record, field) = swept.unwrap_or_else(|| asked_field(&bytes, dice));
+    written(b"value", &flow, &format!("\t{}\t{}", record, field), &bytes)
+}
+
+fn field_case(turn: Option<usize>, dice: &mut Dice) -> Vec<u8> {
+    let case = match turn {
+        Some(turn) => swept_field(turn, dice),
+        None => parts::field(dice),
+    };
+    let words = format!("\t{}\t{}", case.mark, case.fixed.len());
+    with_fixed(written(b"field", case.form.as_bytes(), &words, &case.bytes), &case)
+}
+
 /// One in so many of the files that are read is at its limit.
 const LONG_READ: usize = 40;
+
+fn read_case(turn: Option<usize>, dice: &mut Dice) -> Vec<u8> {
+    let (Given { flow, bytes }, _) = match turn {
+        None if dice.one_in(LONG_READ) => (files::long_file(dice), None),
+        _ => file(turn, 45, dice),
+    };
+    let room = room(made_sheet(&bytes).len(), LENGTH_LIMIT, dice);
+    written(b"read", &flow, &format!("\t{}", room), &bytes)
+}
+
+fn index_case(turn: Option<usize>, dice: &mut Dice) -> Vec<u8> {
+    let Given { flow, bytes } = match turn {
+        None => heads::file(dice),
+        _ => file(turn, 0, dice).0,
+    };
+    let room = room(heads::count(&flow, &bytes), ENTRIES_LIMIT, dice);
+    written(b"index", &flow, &format!("\t{}", room), &bytes)
+}
 
 /// A file, with the record and field that the sweep changed if it did.
 fn file(turn: Option<usize>, good: usize, dice: &mut Dice) -> (Given, Option<(usize, usize)>) {
@@ -178,15 +196,16 @@ fn asked(count: usize, dice: &mut Dice) -> usize {
     }
 }
 
-/// Room for a result of this length: exact, one short, none, or more than it needs.
-fn room(length: usize, dice: &mut Dice) -> usize {
+/// Room for a result of this length: exact, one short, none, or more than it needs; no more than a
+/// header can state.
+fn room(length: usize, limit: usize, dice: &mut Dice) -> usize {
     let room = match dice.below(10) {
         0..=2 => length,
         3 => length.saturating_sub(1),
         4 => 0,
         5 => dice.below(length + 1),
-        6 if dice.one_in(20) => LENGTH_LIMIT,
+        6 if dice.one_in(20) => limit,
         _ => length + dice.between(1, 300),
     };
-    room.min(LENGTH_LIMIT)
+    room.min(limit)
 }
