@@ -10,3 +10,7 @@ pub mod Stored
 pub mod Cells
 pub mod Again
 pub mod Examples
+pub mod OneIndex
+pub mod Nested
+pub mod Once
+pub mod Numbered

@@ -1,3 +1,4 @@
 pub mod Entries
 pub mod Code
 pub mod Standing
+pub mod Whole
