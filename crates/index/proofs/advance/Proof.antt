@@ -7,6 +7,7 @@ use mathlib.Core.List.{List, []}
 use native.Mathlib.Omega.{arith}
 use lib.ListN.{length, getD}
 use denote.Ref.{now}
+use Rattle.record.specs.Step.{IsRecord}
 use Rattle.index.specs.Code.{kindsIn, entered, advanced}
 use Rattle.index.proofs.Tables.{kind-found}
 use Rattle.index.proofs.Onward.{from, no-more, enters, passes}
@@ -32,25 +33,30 @@ enum-told : tie.Need-enum-told Inv-loop μ-loop
 enum-told c = search needs
 
 returns : tie.Need-returns Inv-loop μ-loop
-returns c = let a = c .before .before .before .before .before .before .before .args in
+returns c =
+    let a = c .before .before .before .before .before .before .before .args in
     let none = rw (c .enum-told .given .1) at (c .before .before .step .ensures) in
     sym (no-more (kindsIn (now (a .t))) (now (a .f)) (a .s) (c .before .before .before .loop .n) (c .before .before .before .loop .records .at) none) ∙ c .before .before .before .loop .inv .3
 
+-- what the step says of the record that it found
+stepped : (c : tie.After-known-told Inv-loop μ-loop) →
+    let g = c .before .start .given .0 in
+    IsRecord (now (c .before .before .before .before .before .before .before .before .args .f)) (c .before .before .before .before .loop .records .at) (g .0) (g .1 .0) (g .1 .1 .0 .at)
+stepped c = rw (c .before .start .given .1) at (c .before .before .before .step .ensures)
+
 add-n : tie.Need-add-n Inv-loop μ-loop
-add-n c = let x = rw (c .before .start .given .1) at (c .before .before .before .step .ensures) in
+add-n c =
+    let x = stepped c in
     omega (arith, c .before .before .before .before .loop .inv .2, x .onward, x .next-within)
 
 sub-kind-of : tie.Need-sub-kind-of Inv-loop μ-loop
-sub-kind-of c = let x = rw (c .before .start .given .1) at (c .before .before .before .step .ensures) in
-    x .ordered
+sub-kind-of c = stepped c .ordered
 
 part-kind-of-start : tie.Need-part-kind-of-start Inv-loop μ-loop
-part-kind-of-start c = let x = rw (c .before .start .given .1) at (c .before .before .before .step .ensures) in
-    x .ordered
+part-kind-of-start c = stepped c .ordered
 
 part-kind-of-end : tie.Need-part-kind-of-end Inv-loop μ-loop
-part-kind-of-end c = let x = rw (c .before .start .given .1) at (c .before .before .before .step .ensures) in
-    x .within
+part-kind-of-end c = stepped c .within
 
 kind-of-requires : tie.Need-kind-of-requires Inv-loop μ-loop
 kind-of-requires c κs = search needs
@@ -62,13 +68,15 @@ children-from-requires : tie.Need-children-from-requires Inv-loop μ-loop
 children-from-requires c κs = search needs
 
 enter-requires : tie.Need-enter-requires Inv-loop μ-loop
-enter-requires c κs = let x = rw (c .before .before .before .before .before .start .given .1) at (c .before .before .before .before .before .before .before .step .ensures) in
+enter-requires c κs =
+    let x = stepped (c .before .before .before .before) in
     (omega (arith, c .before .before .before .before .before .before .before .before .loop .inv .1), c .before .before .kind-of .ensures .1, x .ordered, omega (arith, x .within))
 
 returns-2 : tie.Need-returns-2 Inv-loop μ-loop
-returns-2 c = let a = c .before .before .before .before .before .before .before .before .before .before .before .before .before .args in
+returns-2 c =
+    let a = c .before .before .before .before .before .before .before .before .before .before .before .before .before .args in
     let t = now (a .t) in
-    let x = rw (c .before .before .before .before .before .before .start .given .1) at (c .before .before .before .before .before .before .before .before .step .ensures) in
+    let x = stepped (c .before .before .before .before .before) in
     let head = ap (λ (bs : List Bool). getD bs (c .before .before .before .kind-of .result) false) (sym (c .before .before .before .before .before .before .before .before .before .loop .inv .0)) ∙ c .before .before .if1 .taken in
     c .enter .ensures
     ∙ ap (entered (kindsIn t) (a .s) _ _ _ _) (c .before .children-from .ensures)
@@ -76,14 +84,16 @@ returns-2 c = let a = c .before .before .before .before .before .before .before 
     ∙ c .before .before .before .before .before .before .before .before .before .loop .inv .3
 
 loop-less : tie.Need-loop-less Inv-loop μ-loop
-loop-less c = let x = rw (c .before .before .before .before .start .given .1) at (c .before .before .before .before .before .before .step .ensures) in
+loop-less c =
+    let x = stepped (c .before .before .before) in
     omega (arith, x .onward, x .next-within)
 
 loop-again : tie.Need-loop-again Inv-loop μ-loop
-loop-again c = let a = c .before .before .before .before .before .before .before .before .before .before .before .args in
+loop-again c =
+    let a = c .before .before .before .before .before .before .before .before .before .before .before .args in
     let t = now (a .t) in
     let i = c .before .before .before .before .before .before .before .loop .inv in
-    let x = rw (c .before .before .before .before .start .given .1) at (c .before .before .before .before .before .before .step .ensures) in
+    let x = stepped (c .before .before .before) in
     let other = ap (λ (bs : List Bool). getD bs (c .before .kind-of .result) false) (sym (i .0)) ∙ c .if1 .left in (
       i .0,
       omega (arith, i .1),

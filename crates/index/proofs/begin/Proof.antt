@@ -23,17 +23,20 @@ whole-requires : tie.Need-whole-requires
 whole-requires c κs = search needs
 
 returns : tie.Need-returns
-returns c = let a = c .before .before .before .before .before .before .before .before .before .args in
+returns c =
+    let a = c .before .before .before .before .before .before .before .before .before .args in
     let name = now (a .flow) in
     let f = now (a .f) in
     too-short name f (a .room) (c .before .before .before .before .before .before .judge .result) (c .before .before .before .before .before .before .judge .ensures) (c .before .before .before .before .records .given .1) (c .before .before .entries-for .ensures) (c .before .if1 .taken) (c .whole .ensures)
 
 returns-2 : tie.Need-returns-2
-returns-2 c = let a = c .before .before .before .before .before .before .args in
+returns-2 c =
+    let a = c .before .before .before .before .before .before .args in
     reader-refused (now (a .flow)) (now (a .f)) (a .room) (c .before .before .before .judge .result) (c .before .before .before .judge .ensures) (c .before .refusal .given .1)
 
 returns-3 : tie.Need-returns-3
-returns-3 c = let a = c .before .before .before .before .before .before .before .before .args in
+returns-3 c =
+    let a = c .before .before .before .before .before .before .before .before .args in
     let name = now (a .flow) in
     let f = now (a .f) in
     has-room name f (a .room) (c .before .before .before .before .before .judge .result) (c .before .before .before .before .before .judge .ensures) (c .before .before .before .records .given .1) (c .before .entries-for .ensures) (c .if1 .left)

@@ -6,6 +6,7 @@ use mathlib.Core.List.{[]}
 use native.Mathlib.Omega.{arith}
 use lib.ListN.{length, drop}
 use denote.Ref.{now}
+use Rattle.record.specs.Step.{IsRecord}
 use Rattle.index.specs.Entries.{kindsOf}
 use Rattle.index.specs.Code.{kindsIn, scanned}
 use Rattle.index.proofs.Tables.{kind-found, head-read}
@@ -32,21 +33,25 @@ enum-told : tie.Need-enum-told Inv-loop μ-loop
 enum-told c = search needs
 
 returns : tie.Need-returns Inv-loop μ-loop
-returns c = let a = c .before .before .before .before .before .before .args in
+returns c =
+    let a = c .before .before .before .before .before .before .args in
     let none = rw (c .enum-told .given .1) at (c .before .before .step .ensures) in
     children-done (kindsIn (now (a .t))) (a .k) (c .before .before .before .loop .count) _ (c .before .before .before .loop .inv .1) (kinds-end (kindsIn (now (a .t))) (now (a .f)) (c .before .before .before .loop .records .at) none)
 
+-- what the step says of the record that it found
+stepped : (c : tie.After-known-told Inv-loop μ-loop) →
+    let g = c .before .start .given .0 in
+    IsRecord (now (c .before .before .before .before .before .before .before .args .f)) (c .before .before .before .before .loop .records .at) (g .0) (g .1 .0) (g .1 .1 .0 .at)
+stepped c = rw (c .before .start .given .1) at (c .before .before .before .step .ensures)
+
 sub-kind-of : tie.Need-sub-kind-of Inv-loop μ-loop
-sub-kind-of c = let x = rw (c .before .start .given .1) at (c .before .before .before .step .ensures) in
-    x .ordered
+sub-kind-of c = stepped c .ordered
 
 part-kind-of-start : tie.Need-part-kind-of-start Inv-loop μ-loop
-part-kind-of-start c = let x = rw (c .before .start .given .1) at (c .before .before .before .step .ensures) in
-    x .ordered
+part-kind-of-start c = stepped c .ordered
 
 part-kind-of-end : tie.Need-part-kind-of-end Inv-loop μ-loop
-part-kind-of-end c = let x = rw (c .before .start .given .1) at (c .before .before .before .step .ensures) in
-    x .within
+part-kind-of-end c = stepped c .within
 
 kind-of-requires : tie.Need-kind-of-requires Inv-loop μ-loop
 kind-of-requires c κs = search needs
@@ -58,24 +63,28 @@ one-if-requires : tie.Need-one-if-requires Inv-loop μ-loop
 one-if-requires c κs = search needs
 
 add-count : tie.Need-add-count Inv-loop μ-loop
-add-count c = let x = rw (c .before .before .before .before .before .start .given .1) at (c .before .before .before .before .before .before .before .step .ensures) in
+add-count c =
+    let x = stepped (c .before .before .before .before) in
     omega (arith, c .before .before .before .before .before .before .before .before .loop .inv .0, c .one-if .ensures .1, x .onward, x .next-within)
 
 returns-2 : tie.Need-returns-2 Inv-loop μ-loop
-returns-2 c = let a = c .before .before .before .before .before .before .before .before .before .before .before .before .args in
+returns-2 c =
+    let a = c .before .before .before .before .before .before .before .before .before .before .before .before .args in
     let t = now (a .t) in
-    let x = rw (c .before .before .before .before .before .before .start .given .1) at (c .before .before .before .before .before .before .before .before .step .ensures) in
+    let x = stepped (c .before .before .before .before .before) in
     let next = kinds-next (kindsIn t) (now (a .f)) x (c .before .before .before .kind-of .ensures .0 [] ∙ kind-found t _) in
     child-last (kindsIn t) (a .k) (c .before .before .before .before .before .before .before .before .before .loop .count) _ (c .before .before .before .before .before .before .before .before .before .loop .inv .1) next (c .before .before .head-of .ensures .0 [] ∙ head-read t _) (c .before .one-if .ensures .0) (c .if1 .taken)
 
 loop-less : tie.Need-loop-less Inv-loop μ-loop
-loop-less c = let x = rw (c .before .before .before .before .before .before .start .given .1) at (c .before .before .before .before .before .before .before .before .step .ensures) in
+loop-less c =
+    let x = stepped (c .before .before .before .before .before) in
     omega (arith, x .onward, x .next-within)
 
 loop-again : tie.Need-loop-again Inv-loop μ-loop
-loop-again c = let a = c .before .before .before .before .before .before .before .before .before .before .before .before .args in
+loop-again c =
+    let a = c .before .before .before .before .before .before .before .before .before .before .before .before .args in
     let t = now (a .t) in
-    let x = rw (c .before .before .before .before .before .before .start .given .1) at (c .before .before .before .before .before .before .before .before .step .ensures) in
+    let x = stepped (c .before .before .before .before .before) in
     let next = kinds-next (kindsIn t) (now (a .f)) x (c .before .before .before .kind-of .ensures .0 [] ∙ kind-found t _) in
     (omega (arith, c .before .before .before .before .before .before .before .before .before .loop .inv .0, c .before .one-if .ensures .1, x .onward), child-on (kindsIn t) (a .k) (c .before .before .before .before .before .before .before .before .before .loop .count) _ (c .before .before .before .before .before .before .before .before .before .loop .inv .1) next (c .before .before .head-of .ensures .0 [] ∙ head-read t _) (c .before .one-if .ensures .0) (c .if1 .left))
 

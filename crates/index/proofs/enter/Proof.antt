@@ -29,7 +29,8 @@ add-t13 : tie.Need-add-t13
 add-t13 c = search needs
 
 returns : tie.Need-returns
-returns c = let a = c .before .before .before .before .before .before .before .args in
+returns c =
+    let a = c .before .before .before .before .before .before .before .args in
     let t = now (a .t) in
     was-entered (kindsIn t) (a .s) (a .n) (a .k) (a .a) (a .e) (a .children) (omega arith) _ _ (c .before .head-of .ensures .0 [] ∙ head-read t (a .k)) (c .parent-in .ensures)
 

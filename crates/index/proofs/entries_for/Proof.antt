@@ -23,7 +23,8 @@ count-entries-requires : tie.Need-count-entries-requires
 count-entries-requires c κs = c .before .before .heads-of .ensures
 
 returns : tie.Need-returns
-returns c = let f = now (c .before .before .before .before .before .before .before .before .args .f) in
+returns c =
+    let f = now (c .before .before .before .before .before .before .before .before .args .f) in
     c .count-entries .ensures ∙ ap (λ (ks : Kinds). headsIn ks (kindsOf ks f)) (c .before .before .before .before .before .numbers-for .ensures) ∙ entries-count _ f
 
 pub entries-for-spec : {M : Type 1} → statement M

@@ -25,16 +25,19 @@ start-requires : tie.Need-start-requires Inv-loop μ-loop
 start-requires c κs = search needs
 
 loop-holds : tie.Need-loop-holds Inv-loop μ-loop
-loop-holds c = let a = c .before .before .before .before .args in
+loop-holds c =
+    let a = c .before .before .before .before .args in
     let ks = kindsIn (now (a .t)) in
     (omega arith, c .start .ensures ∙ after-none ks (now (a .f)), none-put (entriesOf ks (now (a .f))) (now (a .cells)))
 
 advance-requires : tie.Need-advance-requires Inv-loop μ-loop
-advance-requires c κs = let a = c .before .before .before .before .before .before .args in
+advance-requires c κs =
+    let a = c .before .before .before .before .before .before .args in
     rw (c .before .loop .inv .1) (in-step (kindsIn (now (a .t))) (now (a .f)) (c .before .loop .i))
 
 put-requires : tie.Need-put-requires Inv-loop μ-loop
-put-requires c κs = let a = c .before .before .before .before .before .before .before .before .args in
+put-requires c κs =
+    let a = c .before .before .before .before .before .before .before .before .args in
     let loop = c .before .before .before .loop in
     let long = as-long (entriesOf (kindsIn (now (a .t))) (now (a .f))) (loop .i) (omega arith) (now (a .cells)) (loop .cells) (loop .inv .2) (omega arith) in
     omega (arith, long)
@@ -46,7 +49,8 @@ loop-less : tie.Need-loop-less Inv-loop μ-loop
 loop-less c = omega arith
 
 loop-again : tie.Need-loop-again Inv-loop μ-loop
-loop-again c = let a = c .before .before .before .before .before .before .before .before .before .before .before .args in
+loop-again c =
+    let a = c .before .before .before .before .before .before .before .before .before .before .before .args in
     let ks = kindsIn (now (a .t)) in
     let f = now (a .f) in
     let loop = c .before .before .before .before .before .before .loop in
@@ -55,12 +59,14 @@ loop-again c = let a = c .before .before .before .before .before .before .before
     (omega arith, next ∙ ap (after ks f) (sym (add-one (loop .i))), c .before .before .put .ensures ∙ one-put (entriesOf ks f) (loop .i) (omega arith) (now (a .cells)) (loop .cells) (loop .inv .2) _ e (omega arith))
 
 same-length : tie.Need-same-length Inv-loop μ-loop
-same-length c = let a = c .before .before .before .before .before .before .args in
+same-length c =
+    let a = c .before .before .before .before .before .before .args in
     let loop = c .before .loop in
     as-long (entriesOf (kindsIn (now (a .t))) (now (a .f))) (loop .i) (omega arith) (now (a .cells)) (loop .cells) (loop .inv .2) (omega arith)
 
 returns : tie.Need-returns Inv-loop μ-loop
-returns c = let a = c .before .before .before .before .before .before .args in
+returns c =
+    let a = c .before .before .before .before .before .before .args in
     let loop = c .before .loop in
     let all : loop .i ≡ a .n = omega arith in
     loop .inv .2 ∙ (λ j. storedCells (kindsIn (now (a .t))) (now (a .f)) (all j) (now (a .cells)))

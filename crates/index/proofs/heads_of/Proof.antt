@@ -35,7 +35,8 @@ loop-less : tie.Need-loop-less Inv-loop μ-loop
 loop-less c = search needs
 
 loop-again : tie.Need-loop-again Inv-loop μ-loop
-loop-again c = let g = mayHead (kindsIn (now (c .before .before .before .before .args .t))) in
+loop-again c =
+    let g = mayHead (kindsIn (now (c .before .before .before .before .args .t))) in
     let k = c .before .before .loop .k in
     (omega arith, ap (λ (hs : List Bool). set hs k (c .may-head .result)) (c .before .before .loop .inv .1) ∙ ap (λ (b : Bool). set (firsts g 33 k) k b) (c .may-head .ensures) ∙ first-more g 33 k (omega arith))
 

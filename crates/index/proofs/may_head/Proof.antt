@@ -32,7 +32,8 @@ head-of-requires : tie.Need-head-of-requires Inv-loop μ-loop
 head-of-requires c κs = search needs
 
 returns-2 : tie.Need-returns-2 Inv-loop μ-loop
-returns-2 c = let t = now (c .before .before .before .before .before .before .before .args .t) in
+returns-2 c =
+    let t = now (c .before .before .before .before .before .before .before .args .t) in
     let i = c .before .before .before .loop .inv in
     let here = sym (head-read t (c .before .before .before .loop .j)) ∙ sym (c .before .head-of .ensures .0 []) ∙ c .if2 .taken in
     sym (i .2 ∙ within-found (kindsIn t) (c .before .before .before .before .before .before .before .args .k) (c .before .before .before .loop .j) (omega (arith, c .before .before .loop-test .taken, i .1, heads-length t)) here)
@@ -44,12 +45,14 @@ loop-less : tie.Need-loop-less Inv-loop μ-loop
 loop-less c = search needs
 
 loop-again : tie.Need-loop-again Inv-loop μ-loop
-loop-again c = let t = now (c .before .before .before .before .before .before .before .args .t) in
+loop-again c =
+    let t = now (c .before .before .before .before .before .before .before .args .t) in
     let i = c .before .before .before .loop .inv in
     (i .0, i .1, i .2 ∙ not-within (kindsIn t) (c .before .before .before .before .before .before .before .args .k) (c .before .before .before .loop .j) (omega (arith, c .before .before .loop-test .taken, i .1, heads-length t)) (λ e. c .if2 .left (c .before .head-of .ensures .0 [] ∙ head-read t (c .before .before .before .loop .j) ∙ e)))
 
 returns-3 : tie.Need-returns-3 Inv-loop μ-loop
-returns-3 c = let t = now (c .before .before .before .before .before .args .t) in
+returns-3 c =
+    let t = now (c .before .before .before .before .before .args .t) in
     let i = c .before .loop .inv in
     sym (i .2 ∙ none-asked (kindsIn t) (c .before .before .before .before .before .args .k) (c .before .loop .j) (omega (arith, c .loop-test .left, i .1, heads-length t)))
 

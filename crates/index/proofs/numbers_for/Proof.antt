@@ -16,7 +16,8 @@ table-of-requires : tie.Need-table-of-requires
 table-of-requires c κs = search needs
 
 returns : tie.Need-returns
-returns c = let table = c .before .table-of .result in
+returns c =
+    let table = c .before .table-of .result in
     unfixed (table .numbers) (table .fixed) ∙ ap kindsBy (c .before .table-of .ensures ∙ ap (λ (n : ℕ). layoutFor (flowAt n)) (c .before .before .flow-number .ensures .0))
 
 pub numbers-for-spec : {M : Type 1} → statement M
