@@ -1,7 +1,7 @@
 -- An index has as many entries as records may have children, and what is begun follows from the reader's answer. Assumes nothing.
-use Prim.Native.Nat.{ℕ, suc, _+_, _<_, _≤_}
+use Prim.Native.Nat.{ℕ, _+_, _<_, _≤_}
 use mathlib.Core.Path.{_≡_, refl, sym, ap, _∙_}
-use mathlib.Core.Bool.{Bool, true, false, cond}
+use mathlib.Core.Bool.{Bool, true, false}
 use mathlib.Core.List.{List, [], _∷_, _++_}
 use native.Mathlib.Omega.{arith}
 use lib.ListN.{length}
@@ -16,7 +16,7 @@ use Rattle.judge.specs.declared.Judged.the-variants as files
 use Rattle.index.specs.declared.Begun.{Begun}
 use Rattle.index.specs.declared.Indexed.{Indexed}
 use Rattle.index.specs.declared.Indexed.the-variants.{Filled, Refused}
-use Rattle.index.specs.Entries.{Kinds, kindsOf, mayHead, headsIn, entriesFrom, entriesOf, indexedBy, entriesFor, answerFor}
+use Rattle.index.specs.Entries.{Kinds, kindsOf, mayHead, headsIn, entriesFrom, entriesOf, indexedBy, entriesFor}
 use Rattle.index.specs.Code.{toStore, begun}
 
 module _ (ks : Kinds) (f : List ℕ) where

@@ -2,12 +2,12 @@
 use Prim.Native.Nat.{ℕ, zero, suc, _+_, _-_, _≤_, _<_}
 use mathlib.Core.Path.{_≡_, refl, sym, ap, _∙_, subst}
 use mathlib.Core.Bool.{Bool, true, false, cond, _||_, true≢false}
-use mathlib.Core.List.{List, [], _∷_, _++_, map, map-append, append-assoc}
+use mathlib.Core.List.{List, [], _∷_, _++_, map, map-append}
 use native.Mathlib.Omega.{arith}
 use lib.Dec.{eqb, leb}
-use lib.ListN.{length, getD, take, drop, set, replicate, length-append, length-map, length-set, length-take, length-replicate, getD-replicate, List·getD-append, List·getD-eq-default}
-use lib.Seq.{append-snoc, take-append-seam, take-append-le, take-length, drop-cons, drop-drop, drop-nil, getD-set-same, getD-set-other, getD-append-seam}
-use borrow.Author.Tests.{eq-eqb, ne-eqb, eqb-true, eqb-false, le-leb, lt-leb, leb-true, leb-false}
+use lib.ListN.{length, getD, take, drop, set, replicate, length-append, length-map, length-set, length-take, length-replicate}
+use lib.Seq.{append-snoc, take-append-seam, take-append-le, take-length, drop-cons, drop-drop, getD-set-same, getD-set-other}
+use borrow.Author.Tests.{eq-eqb, ne-eqb, eqb-true, eqb-false, le-leb, leb-true, leb-false}
 use Rattle.text.proofs.Places.{place-most}
 use Rattle.record.specs.Records.{records, field, run, extent, bar}
 use Rattle.record.proofs.Runs.{records-first, run-le}
@@ -243,9 +243,6 @@ module _ (ks : Kinds) where
               none = getD-set-other (s .last) k 0 own 0 (λ q. omega (arith, q, real)) ∙ x .none;
               lasts = λ h head. last-now h (eqb k h) refl head ∙ ap (λ (l : List ℕ). lastEntry l h) (sym snoc);
             }
-
-        m : ℕ
-        m = length (kinds b)
 
         number-is : n + 1 ≡ length (kinds b) + 1
         number-is = omega (arith, x .number, length-map b (kindIn ks))

@@ -1,17 +1,15 @@
 -- The kinds that an index goes by are those of the table that is lent: fixed values have no part in them. Assumes nothing.
 use Prim.Native.Nat.{ℕ, zero, suc, _+_, _≤_, _<_}
 use mathlib.Core.Path.{_≡_, refl, sym, ap, _∙_}
-use mathlib.Core.Bool.{Bool, true, false, cond, _&&_, _||_}
+use mathlib.Core.Bool.{Bool, true, false}
 use mathlib.Core.List.{List, [], _∷_, map}
 use native.Mathlib.Omega.{arith}
-use lib.Dec.{eqb, leb}
 use lib.ListN.{length, getD, drop, length-map, length-drop, drop-of-length-le, List·getD-map}
 use lib.Seq.{drop-cons}
 use native.Mathlib.Numerals.{add-one}
 use borrow.Author.Tests.{le-leb, lt-leb, eq-eqb, ne-eqb}
-use Rattle.text.specs.Places.{placeOf}
 use Rattle.record.specs.Records.{bar}
-use Rattle.layout.specs.Layout.{KindRow, Layout, row, blank, rowNames, find}
+use Rattle.layout.specs.Layout.{KindRow, row, blank, find}
 use Rattle.layout.specs.Numbers.{each, rowOf, rowCount, layoutOf}
 use Rattle.layout.proofs.Each.{each-at}
 use Rattle.layout.proofs.Rows.{rows-length}

@@ -1,6 +1,4 @@
 -- `begin` is right: the reader's refusal is passed on, and of an accepted file the entries are counted.
-use mathlib.Core.Path.{_≡_}
-use native.Mathlib.Omega.{arith}
 use denote.Ref.{now}
 use Rattle.index.proofs.Counts.{reader-refused, too-short, has-room}
 use borrow.Author.Needs.{needs}

@@ -1,11 +1,11 @@
 -- `heads_of` is right: the first k kinds are as the table says, and the others not yet.
 use borrow.Author.Needs.{needs}
-use mathlib.Core.Path.{_≡_, sym, ap, _∙_}
+use mathlib.Core.Path.{_≡_, ap, _∙_}
 use Prim.Native.Nat.{_≤_, _-_}
 use mathlib.Core.Bool.{Bool}
 use mathlib.Core.List.{List}
 use native.Mathlib.Omega.{arith}
-use lib.ListN.{length, set}
+use lib.ListN.{set}
 use denote.Ref.{now}
 use Rattle.index.specs.Entries.{mayHead}
 use Rattle.index.specs.Code.{kindsIn}

@@ -1,5 +1,4 @@
 -- `parent_in` is right: the entry at the head's place, or the entry's own number where that is 0 or past the end.
-use mathlib.Core.Path.{_≡_, refl, sym, ap, _∙_}
 use native.Mathlib.Omega.{arith}
 use denote.Ref.{now}
 use Rattle.index.proofs.Parents.{no-entry, past-kinds, an-entry}
