@@ -3,7 +3,9 @@
    last word says (of field FIXED bytes before them):
 
      judge FLOW LENGTH    value FLOW RECORD FIELD LENGTH    field TYPE MARK FIXED LENGTH    sum LENGTH
-     step FLOW LENGTH     write FLOW ROOM LENGTH            read FLOW ROOM LENGTH
+     step FLOW LENGTH     write FLOW ROOM LENGTH            read FLOW ROOM LENGTH              index FLOW ROOM LENGTH
+
+   ROOM is a number of bytes, for index of entries. The line of an index is followed by a line for each entry.
 
    With the word `codes` it makes the calls that no case can state; codes.expected has their answers. It includes no header
    of the C library, so that any C compiler for x86-64 Linux will do. */
@@ -15,7 +17,7 @@ int printf(const char *form, ...);
 int sscanf(const char *s, const char *form, ...);
 int strcmp(const char *a, const char *b);
 
-enum { MOST = 1114112, ASKED = 1000000000, FOLLOW = 96 };
+enum { MOST = 1114112, ASKED = 1000000000, FOLLOW = 96, ENTRIES = 8192 };
 
 struct word { char *at; screen_size len; };
 
@@ -23,7 +25,7 @@ static char line[4096];
 static struct word word[5];
 static int words;
 static screen_byte body[2 * MOST], room[MOST];
-static screen_cell answer[4];
+static screen_cell answer[4], cells[4 * ENTRIES];
 
 /* What a lent byte holds before a call. */
 static screen_byte pattern(screen_size place) { return (screen_byte)(place * 167 + 13); }
@@ -38,6 +40,20 @@ static void lend(screen_size size) {
 static int kept(screen_size from, screen_size size) {
     for (screen_size i = from; i < size; i++)
         if (room[i] != pattern(i)) return 0;
+    return 1;
+}
+
+/* What a lent cell holds before a call: no number of an index is so great. */
+static screen_cell cell_pattern(screen_size place) { return ~(screen_cell)pattern(place); }
+
+static void lend_cells(void) {
+    for (screen_size i = 0; i < 4 * ENTRIES; i++) cells[i] = cell_pattern(i);
+}
+
+/* 1 where all cells from a place on are as before, those that were not lent too. */
+static int cells_kept(screen_size from) {
+    for (screen_size i = from; i < 4 * ENTRIES; i++)
+        if (cells[i] != cell_pattern(i)) return 0;
     return 1;
 }
 
@@ -128,6 +144,19 @@ static void step(struct word flow, screen_size len) {
     put_bytes(room, named);
 }
 
+static void index_file(struct word flow, screen_size count, screen_size len) {
+    lend(0);
+    lend_cells();
+    screen_index((screen_byte *)flow.at, flow.len, body, len, cells, count, answer);
+    if (refused()) {
+        printf("\t%d", cells_kept(0));
+        return;
+    }
+    printf("ok\t0\t%lu\t%lu\t0\t%d", answer[1], answer[2], cells_kept(4 * answer[2]));
+    rest_is_zero(3);
+    for (screen_size i = 0; i < 4 * answer[2]; i++) printf("%c%lu", i % 4 == 0 ? '\n' : '\t', cells[i]);
+}
+
 /* ---- the cases */
 
 /* Reads the next header and ends its words by NULs. 0 at the end of the input. */
@@ -211,6 +240,7 @@ static int answer_case(void) {
     else if (is("value", 5) && number(2, ASKED, &asked) && number(3, ASKED, &more)) value(word[1], asked, more, len);
     else if (is("write", 4) && number(2, MOST, &asked)) transfer(1, word[1], asked, len);
     else if (is("read", 4) && number(2, MOST, &asked)) transfer(0, word[1], asked, len);
+    else if (is("index", 4) && number(2, ENTRIES, &asked)) index_file(word[1], 4 * asked, len);
     else return 0;
     return 1;
 }
@@ -275,10 +305,25 @@ static void numbers_of_value(void) {
     }
 }
 
+/* The index of a file with one entry, in cells that are no whole number of entries. */
+static void counts_of_cells(void) {
+    static const screen_size call[] = { 3, 4, 7 };
+    char name[] = "P0133001";
+    struct word flow = { name, 8 };
+    screen_size len = put_in_body("ZHD|P0133001|Z|POOL|Z|SETT|20240105120000\nSB1|H|M|METER 01|20231231|M\nCM1|SF|1204|-1.5|12\n"
+                                  "CM1||7|0.0|0\nZPT|5|521299993\n");
+    for (screen_size i = 0; i < sizeof call / sizeof call[0]; i++) {
+        printf("index\t%lu\t", call[i]);
+        index_file(flow, call[i], len);
+        putchar('\n');
+    }
+}
+
 int main(int count, char **words_given) {
     if (count == 2 && strcmp(words_given[1], "codes") == 0) {
         codes_of_field();
         numbers_of_value();
+        counts_of_cells();
         return 0;
     }
     answer_all();

@@ -3,18 +3,20 @@
    to give the answer that its contract in crates/screen states, for all bytes and numbers. example.c calls every one.
 
    What a caller has to see to, since C can't state it:
-   - Bytes are a pointer and a length, with no NUL at their end. No pointer is NULL; behind one with length 0 nothing is read.
+   - Bytes are a pointer and a length, with no NUL at their end; cells are a pointer and their number. No pointer is NULL;
+     behind one with length 0 nothing is read.
    - An array has the size shown: four cells for answer, 96 bytes for follow.
-   - What is written (answer, out, follow) overlaps nothing else that is given to the same call.
+   - What is written (answer, out, follow, cells) overlaps nothing else that is given to the same call.
    No function keeps anything between calls or allocates, so several threads may call at once; 8 KiB of stack are enough.
 
    A flow is the eight characters of its name: P0012001, P0133001, P0134001, P0138001, P0164001 or P0181002. Records and
    fields count from 1. An answer is four cells. All four are written, whatever they held, and a cell that says nothing is 0:
 
      cell          0                1           2                3
-     any refusal   number, 1 to 18  record or 0 field or 0       byte place
+     any refusal   number, 1 to 19  record or 0 field or 0       byte place
      judge         0                records     0                0
      write, read   0                records     bytes written    0
+     index         0                records     entries          0
      value, field  0                1: empty    0                0
                    0                2: number   its size         1 if below zero, else 0
                    0                3: truth    1 yes, 0 no      0
@@ -27,12 +29,13 @@
    with 14, with 18 past the last record, and with the footer that screen_write adds.
 
    Cell 0 tells a refusal from all else:
-      1 no such flow              7 required field empty           13 checksum wrong
-      2 file or sheet too long    8 form of a field                14 records end before ZPT
-      3 record over 512 bytes     9 range of a field               15 last line feed absent
-      4 no kind of this flow     10 fixed value or null differs    16 bar in a sheet
-      5 kind not allowed here    11 key out of its order           17 out too short
-      6 wrong number of fields   12 record count wrong             18 no such record, field, width or code */
+      1 no such flow              8 form of a field                15 last line feed absent
+      2 file or sheet too long    9 range of a field               16 bar in a sheet
+      3 record over 512 bytes    10 fixed value or null differs    17 out too short
+      4 no kind of this flow     11 key out of its order           18 no such record, field, width or code
+      5 kind not allowed here    12 record count wrong             19 cells too few for the entries
+      6 wrong number of fields   13 checksum wrong
+      7 required field empty     14 records end before ZPT */
 #ifndef SCREEN_H
 #define SCREEN_H
 
@@ -86,6 +89,13 @@ screen_code screen_checksum(const screen_byte *bytes, screen_size bytes_len);
    may follow are at the front of follow, end to end. All bytes behind them, and else all of follow, are as before. */
 void screen_step(const screen_byte *flow, screen_size flow_len, const screen_byte *kinds, screen_size kinds_len,
                  screen_byte follow[96], screen_cell answer[4]);
+
+/* Makes an index of a file: an entry for each record that may have children (GS7, SUP, SB1, SB2, and SUB of P0164001), in the
+   file's order. An entry is four cells: the record's number; its byte place; its parent's entry, where entries count from 1,
+   or its own entry where it has no parent; and the number of its direct children. They are the first cells, 4 * entries of
+   them. All cells behind them, and on a refusal all of them, are as before. file_len cells are always enough. */
+void screen_index(const screen_byte *flow, screen_size flow_len, const screen_byte *file, screen_size file_len,
+                  screen_cell *cells, screen_size cell_count, screen_cell answer[4]);
 
 #ifdef __cplusplus
 }

@@ -51,4 +51,9 @@ extern "C" {
     pub fn screen_step(
         flow: *const u8, flow_len: usize, kinds: *const u8, kinds_len: usize, follow: *mut [u8; 96], answer: *mut [u64; 4],
     );
+
+    /// Makes an index of a file, four cells an entry.
+    pub fn screen_index(
+        flow: *const u8, flow_len: usize, file: *const u8, file_len: usize, cells: *mut u64, cell_count: usize, answer: *mut [u64; 4],
+    );
 }

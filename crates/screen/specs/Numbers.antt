@@ -1,6 +1,6 @@
 -- The papers' answers as four numbers in a lent array, for callers in C. Cell 0 is the refusal's number, 0 where nothing is refused;
 -- of a refusal cell 1 is the record, cell 2 the field and cell 3 the byte place. A cell that says nothing is 0. Assumes nothing.
-use Prim.Native.Nat.{ℕ}
+use Prim.Native.Nat.{ℕ, _/_}
 use mathlib.Core.Path.{_≡_}
 use mathlib.Core.Bool.{Bool, cond}
 use mathlib.Core.List.{List, [], _∷_}
@@ -12,6 +12,7 @@ use Rattle.field.specs.Judge as fields
 use Rattle.field.specs.Codes.{typeCoded, markCoded}
 use Rattle.flow.specs.Step as steps
 use Rattle.judge.specs.File as files
+use Rattle.index.specs.Entries as indexes
 use Rattle.value.specs.Value as values
 use Rattle.sheet.specs.Sheets.{made, sheetOf}
 use Rattle.sheet.specs.Write as writing
@@ -99,3 +100,13 @@ pub record Stepped (name kinds cells old new : List ℕ) : Type 0 where
   pub step : steps.Reply
   pub right : steps.ReplyRight name kinds step old new
   pub says : cells ≡ stepCells step
+
+-- an index: cell 1 is the number of records, cell 2 the number of entries
+abbrev pub indexCells : indexes.Reply → List ℕ
+indexCells (indexes.accepted records entries) = 0 ∷ records ∷ entries ∷ 0 ∷ []
+indexCells (indexes.refused number r f place) = refusalCells number r f place
+
+-- an index in lent cells, which have room for a quarter as many entries: the answer's cells, and every cell that was lent
+pub record FilledCells (name file cells old new : List ℕ) : Type 0 where
+  pub says : cells ≡ indexCells (indexes.indexed name file (length old / 4))
+  pub leaves : new ≡ indexes.cellsBy (indexes.answerFor name file (length old / 4)) (indexes.entriesFor name file) old

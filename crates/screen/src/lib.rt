@@ -1,7 +1,8 @@
-// The seven public parts under C names. An answer is four numbers in a lent array: include/screen.h says what each cell holds.
+// The eight public parts under C names. An answer is four numbers in a lent array: include/screen.h says what each cell holds.
 use field::FieldType;
 use field::Mark;
 use flow::StepAnswer;
+use index::Indexed;
 use judge::Judged;
 use place::Refusal;
 use sheet::Transfer;
@@ -14,10 +15,11 @@ ghost use Rattle.checksum.specs.Checksum.{checksumOf};
 ghost use Rattle.field.specs.Judge.{marked};
 ghost use Rattle.field.specs.Codes.{typeCoded, markCoded};
 ghost use Rattle.flow.specs.Step.{paper as stepPaper};
+ghost use Rattle.index.specs.Entries.{paper as indexPaper};
 ghost use Rattle.judge.specs.File.{judged, paper as judgePaper};
 ghost use Rattle.sheet.specs.Write.{paper as transferPaper};
 ghost use Rattle.value.specs.Value.{valued, paper as valuePaper};
-ghost use Rattle.screen.specs.Numbers.{refusalCells, judgeCells, transferCells, WroteCells, ReadCells, flagOf, numberCells, valueCells, fieldCells, fieldAsked, stepCells, Stepped};
+ghost use Rattle.screen.specs.Numbers.{refusalCells, judgeCells, transferCells, WroteCells, ReadCells, flagOf, numberCells, valueCells, fieldCells, fieldAsked, stepCells, Stepped, indexCells, FilledCells};
 
 // A refusal's number, record, field and place.
 fn refusal_cells(r: Refusal) -> [u64; 4]
@@ -195,4 +197,22 @@ pub extern "C" fn screen_step(
     ensures { λ _. ⌜ Stepped (now (flow .entry)) (now (kinds .entry)) (now (answer .exit)) (now (follow .entry)) (now (follow .exit)) ⌝ }
 {
     *answer = step_cells(flow::step(flow, kinds, follow));
+}
+
+// What is said of an index.
+fn index_cells(i: Indexed) -> [u64; 4]
+    ensures { λ r. ⌜ r ≡ indexCells (indexPaper i) ⌝ }
+{
+    match i {
+        Indexed::Filled { records, entries } => [0, records as u64, entries as u64, 0],
+        Indexed::Refused(refusal) => refusal_cells(refusal),
+    }
+}
+
+// Fills the lent cells with the index of a file for a flow, four an entry.
+#[no_mangle]
+pub extern "C" fn screen_index(flow: &[u8], file: &[u8], cells: &mut [u64], answer: &mut [u64; 4])
+    ensures { λ _. ⌜ FilledCells (now (flow .entry)) (now (file .entry)) (now (answer .exit)) (now (cells .entry)) (now (cells .exit)) ⌝ }
+{
+    *answer = index_cells(index::fill_cells(flow, file, cells));
 }
