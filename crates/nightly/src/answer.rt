@@ -1,5 +1,6 @@
 // The answer to a case: one line. Each function gives whether all of it was written.
 use crate::header::Ask;
+use crate::indexing;
 use crate::room::fill;
 use crate::room::kept;
 use field::FieldAnswer;
@@ -99,5 +100,6 @@ pub fn answer(ask: Ask, flow: &[u8], fixed: &[u8], body: &[u8], room: &mut [u8])
             let n = least(size, room.len());
             read_line(flow, body, &mut room[0..n])
         }
+        Ask::Index { room: size } => indexing::index_line(flow, body, size),
     }
 }

@@ -34,6 +34,7 @@ pub enum Fault {
     Mark,
     Fixed,
     Room,
+    Entries,
     Length,
 }
 
@@ -94,6 +95,7 @@ fn tell_fault(fault: Fault, name: &[u8]) {
         Fault::Mark => tell(b"MARK is none of -, opt and ="),
         Fault::Fixed => tell_limit(b"FIXED", b"1,114,112"),
         Fault::Room => tell_limit(b"ROOM", b"1,114,112"),
+        Fault::Entries => tell_limit(b"ROOM", b"8,192"),
         Fault::Length => tell_limit(b"LENGTH", b"1,114,112"),
     }
 }

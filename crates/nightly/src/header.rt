@@ -11,11 +11,14 @@ ghost use mathlib.Core.Path.{_≡_};
 ghost use Rattle.record.specs.Records.{field};
 ghost use Rattle.words.specs.Spelling.{numberOf};
 
-// The greatest LENGTH, FIXED and ROOM, so that files over the limit can be tried.
+// The greatest LENGTH, FIXED and ROOM for bytes, so that files over the limit can be tried.
 const LENGTH_LIMIT: usize = 1114112;
 
 // The greatest RECORD and FIELD.
 const ASKED_LIMIT: usize = 1000000000;
+
+// The greatest ROOM for entries of an index.
+const ENTRIES_LIMIT: usize = 8192;
 
 // What a case asks, beside the flow in its header and the bytes behind it.
 pub enum Ask {
@@ -26,6 +29,7 @@ pub enum Ask {
     Step,
     Write { room: usize },
     Read { room: usize },
+    Index { room: usize },
 }
 
 // What is asked, how many bytes of fixed value and how many of body are behind the header.
@@ -60,6 +64,13 @@ fn read_asked(digits: &[u8]) -> Number
     ensures { λ r. ⌜ r ≡ numberOf 10 1000000000 (now (digits .entry)) ⌝ }
 {
     words::read_number(digits, 10, ASKED_LIMIT)
+}
+
+// A number of entries of an index.
+fn read_entries(digits: &[u8]) -> Number
+    ensures { λ r. ⌜ r ≡ numberOf 10 8192 (now (digits .entry)) ⌝ }
+{
+    words::read_number(digits, 10, ENTRIES_LIMIT)
 }
 
 // How many words a header has.
@@ -130,6 +141,17 @@ fn read_transfer(writes: bool, header: &[u8]) -> Header {
     case_of(Ask::Read { room: room }, 0, word(header, 4))
 }
 
+// index FLOW ROOM LENGTH
+fn read_index(header: &[u8]) -> Header {
+    if count_words(header) != 4 {
+        return wrong_words(4, header);
+    }
+    let Number::Is(room) = read_entries(word(header, 3)) else {
+        return Header::Bad(Fault::Entries);
+    };
+    case_of(Ask::Index { room: room }, 0, word(header, 4))
+}
+
 // field TYPE MARK FIXED LENGTH
 fn read_field(header: &[u8]) -> Header {
     if count_words(header) != 5 {
@@ -183,6 +205,9 @@ pub fn read(header: &[u8]) -> Header {
     }
     if same_bytes(name, b"read") {
         return read_transfer(false, header);
+    }
+    if same_bytes(name, b"index") {
+        return read_index(header);
     }
     if same_bytes(name, b"value") {
         return read_value(header);

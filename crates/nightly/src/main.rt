@@ -2,6 +2,7 @@
 mod answer;
 mod broken;
 mod header;
+mod indexing;
 mod room;
 
 use broken::Fault;

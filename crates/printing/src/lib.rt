@@ -21,6 +21,13 @@ pub fn print_numbers(word: &[u8], numbers: &[usize]) -> bool {
     print(&line[..end])
 }
 
+// Writes a line of numbers alone, at most six.
+pub fn print_row(first: usize, others: &[usize]) -> bool {
+    let mut digits = [0u8; 20];
+    let k = io::decimal(first as u64, &mut digits);
+    print_numbers(&digits[..k], others)
+}
+
 // Writes the line of a file that is accepted.
 pub fn print_accepted(records: usize) -> bool {
     print_numbers(b"ok", &[0, records, 0, 0])
