@@ -1,3 +1,4 @@
 pub mod Rooms
 pub mod Totals
 pub mod Points
+pub mod Listing

@@ -1,6 +1,6 @@
 -- Each refusal of a file or a sheet has the place of its record and field. Assumes nothing.
 use Prim.Native.Nat.{ℕ}
-use mathlib.Core.Path.{_≡_, refl, sym}
+use mathlib.Core.Path.{_≡_, refl, sym, subst}
 use mathlib.Core.Bool.{Bool, true, false, not, cond}
 use mathlib.Core.List.{List}
 use native.Mathlib.Omega.{arith}
@@ -31,6 +31,10 @@ use Rattle.sheet.specs.Write.{paper as transferPaper}
 use Rattle.sheet.specs.Read.{readTo, Read}
 use Rattle.sheet.specs.declared.Transfer.{Transfer}
 use Rattle.sheet.specs.declared.Transfer.the-variants.{Done, Refused}
+use Rattle.index.specs.Entries.{indexedBy, answerFor, entriesFor}
+use Rattle.index.specs.declared.Entry.{Entry}
+use Rattle.index.specs.declared.Indexed.{Indexed}
+use Rattle.index.specs.declared.Indexed.the-variants as indexes
 use Rattle.rig.specs.Placed.{PlacedIn}
 
 -- a refusal of the whole
@@ -92,6 +96,24 @@ same-value f r (values.Text from to) e h = let z : _≡_ {A = ℕ} 0 1 = cc in a
 pub valued-placed : (name f : List ℕ) (n k : ℕ) (r : Refusal) → valuePaper f (values.Refused r) ≡ valued name f n k → Placed bar f r
 unfolding valued
 valued-placed name f n k r e = same-value f r (valueIn name f n k) e (in-placed f n k name)
+
+-- of an index
+abbrev PlacedIndex : List ℕ → Indexed → Type 0
+PlacedIndex f (indexes.Filled records entries) = Unit
+PlacedIndex f (indexes.Refused r) = Placed bar f r
+
+module _ (f : List ℕ) (es : List Entry) (room : ℕ) where
+  room-or-not : (b : Bool) (n : ℕ) → PlacedIndex f (must b (indexes.Refused (whole 19)) (indexes.Filled n (length es)))
+  room-or-not true n = tt
+  room-or-not false n = whole-placed bar f 19
+
+  read-or-not : (v : Verdict) → PlacedIndex f (indexedBy (withPlace bar f v) es room)
+  unfolding indexedBy
+  read-or-not (verdicts.Accepted n) = room-or-not (leb (length es) room) n
+  read-or-not (verdicts.Refused number n k) = refl
+
+pub index-placed : (name f : List ℕ) (room : ℕ) (r : Refusal) → answerFor name f room ≡ indexes.Refused r → Placed bar f r
+index-placed name f room r e = subst (PlacedIndex f) e (read-or-not f (entriesFor name f) room (verdict name f))
 
 -- of a sheet that is written, and of a file that is read
 module _ (sep : ℕ) (s : List ℕ) where

@@ -3,6 +3,7 @@
 mod arguments;
 mod asking;
 mod call;
+mod indexing;
 mod judging;
 mod making;
 

@@ -5,7 +5,7 @@ ghost use mathlib.Core.Path.{_≡_};
 ghost use Rattle.text.specs.Characters.{from-to};
 
 // The greatest refusal.
-const LAST: usize = 18;
+const LAST: usize = 19;
 
 // The rule that refusal n holds up, 1 to 9.
 fn early_rule(n: usize) -> bool {
@@ -24,7 +24,7 @@ fn early_rule(n: usize) -> bool {
     }
 }
 
-// The rule that refusal n holds up, 10 to 18.
+// The rule that refusal n holds up, 10 to 19.
 fn late_rule(n: usize) -> bool {
     match n {
         10 => print(b"a fixed value is given as it is, and a null field is empty"),
@@ -41,9 +41,10 @@ fn late_rule(n: usize) -> bool {
         ),
         16 => print(b"a sheet has no bar: its fields are parted by tabs"),
         17 => print(b"the output has room for the whole result"),
-        _ => print(
+        18 => print(
             b"the record and field that are asked are there; a width is 1 to 512 for text, 1 to 18 for int, and for dec 2 to 18 and then 1 to one less",
         ),
+        _ => print(b"the list has room for all entries of the index"),
     }
 }
 
@@ -54,7 +55,7 @@ pub fn rule(n: usize) -> bool {
 
 // There is a refusal n.
 pub fn has_rule(n: usize) -> bool
-    ensures { λ r. ⌜ r ≡ from-to 1 18 n ⌝ }
+    ensures { λ r. ⌜ r ≡ from-to 1 19 n ⌝ }
 {
     if n < 1 {
         return false;
