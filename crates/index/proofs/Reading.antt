@@ -360,9 +360,13 @@ module _ (ks : Kinds) where
     after-coming zero h = started
     after-coming (suc i) h = next-came i h (after-coming i (omega (arith, h))) .coming
 
-    pub entry-read : (i : ℕ) → i < length (entriesOf ks f) → after ks f (suc i) .entry ≡ entryAt (entriesOf ks f) i
+    entry-came : (i : ℕ) → i < length (entriesOf ks f) → after ks f (suc i) .entry ≡ entryAt (entriesOf ks f) i
     unfolding after
-    entry-read i h = next-came i h (after-coming i (omega (arith, h))) .is
+    entry-came i h = next-came i h (after-coming i (omega (arith, h))) .is
+
+-- the entry read after i others is entry i of the index
+pub entry-read : (ks : Kinds) (f : List ℕ) → length (ks .names) ≤ 32 → (i : ℕ) → i < length (entriesOf ks f) → after ks f (suc i) .entry ≡ entryAt (entriesOf ks f) i
+entry-read ks f few i h = entry-came ks f few i h
 
 -- no more entries have been read than records, and no more records than bytes
 module _ (ks : Kinds) where

@@ -101,23 +101,22 @@ unfolding listBy
 list-made (Refused r) es old = refl
 list-made (Filled n m) es old = refl
 
-module _ (name f : List ℕ) (old : List Entry) (b : Begun) (is : b ≡ begun name f (length old)) where
-  pub count-fits : b .count ≤ length old
-  count-fits = agreed name f (length old) b is (kindsFor (flowNamed name)) refl .fits
+pub count-fits : (name f : List ℕ) (old : List Entry) (b : Begun) → b ≡ begun name f (length old) → b .count ≤ length old
+count-fits name f old b is = agreed name f (length old) b is (kindsFor (flowNamed name)) refl .fits
 
-  module _ (t : List ℕ) (same : kindsIn t ≡ kindsFor (flowNamed name)) where
-    all-agree : Agrees (entriesOf (kindsIn t) f) (length old) b
-    all-agree = agreed name f (length old) b is (kindsIn t) same
+module _ (name f : List ℕ) (old : List Entry) (b : Begun) (is : b ≡ begun name f (length old)) (t : List ℕ) (same : kindsIn t ≡ kindsFor (flowNamed name)) where
+  all-agree : Agrees (entriesOf (kindsIn t) f) (length old) b
+  all-agree = agreed name f (length old) b is (kindsIn t) same
 
-    pub count-there : b .count ≤ length (entriesOf (kindsIn t) f)
-    count-there = all-agree .there
+  pub count-there : b .count ≤ length (entriesOf (kindsIn t) f)
+  count-there = all-agree .there
 
-    pub filled-right : (new : List Entry) → new ≡ stored (kindsIn t) f (b .count) old → FilledRight name f old new (b .answer)
-    unfolding indexed listed
-    filled-right new left = record {
-      says = ap (λ (c : Begun). paper (c .answer)) is;
-      holds = left
-          ∙ ap (λ (es : List Entry). es ++ drop (b .count) old) (all-agree .makes)
-          ∙ (λ i. promised (is i .answer) (entriesOf (same i) f) ++ drop (is i .count) old)
-          ∙ list-made (answerFor name f (length old)) (entriesFor name f) old;
-    }
+  pub filled-right : (new : List Entry) → new ≡ stored (kindsIn t) f (b .count) old → FilledRight name f old new (b .answer)
+  unfolding indexed listed
+  filled-right new left = record {
+    says = ap (λ (c : Begun). paper (c .answer)) is;
+    holds = left
+        ∙ ap (λ (es : List Entry). es ++ drop (b .count) old) (all-agree .makes)
+        ∙ (λ i. promised (is i .answer) (entriesOf (same i) f) ++ drop (is i .count) old)
+        ∙ list-made (answerFor name f (length old)) (entriesFor name f) old;
+  }
