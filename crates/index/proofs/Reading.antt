@@ -11,6 +11,7 @@ use borrow.Author.Tests.{eq-eqb, ne-eqb, eqb-true, eqb-false, le-leb, leb-true, 
 use Rattle.text.proofs.Places.{place-most}
 use Rattle.record.specs.Records.{records, field, run, extent, bar}
 use Rattle.record.proofs.Runs.{records-first, run-le}
+use Rattle.record.proofs.Search.{extent-snoc}
 use Rattle.place.specs.Places.{recordAt, placeAt}
 use Rattle.place.proofs.Points.{in-record, no-field}
 use Rattle.index.specs.declared.Entry.{Entry}
@@ -42,11 +43,6 @@ cut-at [] rest f e = sym e
 cut-at (r ∷ before) rest f e =
     ap records (sym (drop-drop (extent before) (length r + 1) f))
     ∙ cut-at before rest (drop (length r + 1) f) (sym (cut-first r (before ++ rest) f e))
-
-extent-snoc : (rs : List (List ℕ)) (r : List ℕ) → extent (rs ++ r ∷ []) ≡ extent rs + length r + 1
-unfolding extent
-extent-snoc [] r = omega arith
-extent-snoc (q ∷ rs) r = omega (arith, extent-snoc rs r)
 
 -- yes counts one
 abbrev one : Bool → ℕ

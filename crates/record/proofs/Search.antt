@@ -16,7 +16,7 @@ use Rattle.record.proofs.Cutting.{part-as}
 use Rattle.record.proofs.Fields.{from-start, by-number}
 
 -- the extent with one part more
-extent-snoc : (ps : List (List ℕ)) (p : List ℕ) → extent (ps ++ p ∷ []) ≡ extent ps + (length p + 1)
+pub extent-snoc : (ps : List (List ℕ)) (p : List ℕ) → extent (ps ++ p ∷ []) ≡ extent ps + (length p + 1)
 unfolding extent
 extent-snoc [] p = omega arith
 extent-snoc (q ∷ ps) p = omega (arith, extent-snoc ps p)
