@@ -3,6 +3,7 @@
 mod common;
 use common::*;
 use second::answer::answer;
+use second::field::Value;
 use second::index::{index, Entry};
 use second::judge::{judge, value};
 use second::refusal::Refusal;
@@ -427,4 +428,35 @@ fn c13_the_line_and_the_entries_lines() {
         assert_eq!(line(&header(room), &file), format!("ok\t0\t15\t8\t0\t1\n{}", entries));
     }
     assert_eq!(line(&header(7), &file), "refused\t19\t0\t0\t0\t1\n");
+}
+
+#[test]
+fn c14_the_last_day_of_a_month_and_the_day_after_it() {
+    let days = [
+        ("19000228", "19000229"),
+        ("20000229", "20000230"),
+        ("20230228", "20230229"),
+        ("20240229", "20240230"),
+        ("20230131", "20230132"),
+        ("20230331", "20230332"),
+        ("20230430", "20230431"),
+        ("20230531", "20230532"),
+        ("20230630", "20230631"),
+        ("20230731", "20230732"),
+        ("20230831", "20230832"),
+        ("20230930", "20230931"),
+        ("20231031", "20231032"),
+        ("20231130", "20231131"),
+        ("20231231", "20231232"),
+    ];
+    for (last, after) in days {
+        let number = last.parse().expect("digits");
+        assert_eq!(field("date", last.as_bytes()), Ok(Value::Number(number)));
+        assert_eq!(field("date", after.as_bytes()), Err(9));
+        assert_eq!(judged_with("P0138001", 2, 5, last.as_bytes()), Ok(4));
+        assert_eq!(judged_with("P0138001", 2, 5, after.as_bytes()), Err((9, 2, 5)));
+        let noon = |day: &str| format!("{}120000", day).into_bytes();
+        assert_eq!(judged_with("P0138001", 1, 7, &noon(last)), Ok(4));
+        assert_eq!(judged_with("P0138001", 1, 7, &noon(after)), Err((9, 1, 7)));
+    }
 }

@@ -8,6 +8,7 @@ use second::cases::footers::no_made_footer;
 use second::cases::values::TEXT;
 use second::cases::Generator;
 use second::census::census;
+use second::field::{judge_field, Mark, Type};
 use second::flows::{named, published};
 use second::judge::{judge, FILE_LIMIT};
 use second::refusal::Refusal;
@@ -34,7 +35,7 @@ fn the_stream_of_seed_1_on_any_machine() {
     let sum = stream
         .iter()
         .fold(0xcbf2_9ce4_8422_2325_u64, |sum, &byte| (sum ^ u64::from(byte)).wrapping_mul(0x0100_0000_01b3));
-    assert_eq!((stream.len(), sum), (3_290_356, 7_659_949_186_764_791_513));
+    assert_eq!((stream.len(), sum), (3_279_113, 17_849_749_502_996_738_429));
 }
 
 #[test]
@@ -252,6 +253,36 @@ fn no_date_falls_below_the_earliest() {
     for place in PLACES {
         assert_eq!(spoiled_date("00010101", place), (false, 0));
         assert_eq!(spoiled_date("00010102", place), (true, 11));
+    }
+}
+
+/// The month and the day of a date in a field case, and whether the calendar has it.
+fn month_and_day(ask: &Ask) -> Option<(String, bool)> {
+    let (mark, bytes) = match ask {
+        Ask::Field { form: Type::Date, mark, bytes } if bytes.len() == 8 => (mark, bytes),
+        _ => return None,
+    };
+    let in_calendar = match judge_field(Type::Date, mark, bytes) {
+        Ok(_) => true,
+        Err(9) => false,
+        Err(_) => return None,
+    };
+    Some((String::from_utf8_lossy(&bytes[4..]).into_owned(), in_calendar))
+}
+
+#[test]
+fn streams_hold_the_last_day_of_each_month_and_the_day_after_it() {
+    let stream = generator(5, "field").stream(20_000);
+    let seen: BTreeSet<(String, bool)> =
+        cases_of(&stream).filter_map(|case| month_and_day(&case.expect("a good header").ask)).collect();
+    let last = ["0131", "0331", "0430", "0531", "0630", "0731", "0831", "0930", "1031", "1130", "1231"];
+    let after = ["0132", "0332", "0431", "0532", "0631", "0732", "0832", "0931", "1032", "1131", "1232"];
+    for (last, after) in last.iter().zip(after) {
+        assert!(seen.contains(&(last.to_string(), true)), "{}", last);
+        assert!(seen.contains(&(after.to_string(), false)), "{}", after);
+    }
+    for (day, good) in [("0228", true), ("0229", true), ("0229", false), ("0230", false)] {
+        assert!(seen.contains(&(day.to_string(), good)), "{}", day);
     }
 }
 

@@ -42,13 +42,14 @@ use Rattle.answers.proofs.P0164.{p0164}
 use Rattle.answers.proofs.SameDate.{sameDate}
 use Rattle.answers.proofs.PointAt.{pointAt}
 use Rattle.answers.proofs.BesideFile.{lent, besideFile}
+use Rattle.answers.proofs.MonthEnds.{monthEnds}
 
 -- the cases that are computed; where they fail, fewer of them at a time show which
 unfoldable pub computed : List Case
-computed = refusals ++ neighbours ++ steps ++ p0012 ++ p0181 ++ p0133 ++ p0134 ++ p0138 ++ p0164 ++ sameDate ++ pointAt ++ besideFile
+computed = refusals ++ neighbours ++ steps ++ p0012 ++ p0181 ++ p0133 ++ p0134 ++ p0138 ++ p0164 ++ sameDate ++ pointAt ++ besideFile ++ monthEnds
 
 computed-right : Right computed
-unfolding computed refusals neighbours steps p0012 p0181 p0133 p0134 p0138 p0164 sameDate pointAt besideFile lent copies given expected bytesBefore behind joined onto records fields field extent turned holds words addRecord checksum checksumOf minus unsigned plain intForm intValue decForm decValue spelled decimalIn decimal leap daysIn isDay isDate isTime textForm bolForm periodRange form range valueOf widthRight filled fieldAnswer judgedAs fieldJudged keyOrder numberOrder textOrder digitsOrder wholeOrder among find flowNumber isDigit isText fieldFault fieldsFault lastKind keyWith keyBefore placeFault shapeFault keyFault footerFault kindFault fault checkedFrom ended judgedBy verdict fieldStart placeAt judged isThere fieldValue valueBy valueIn valued footer made barLine butLast sheetOf written readTo kindsIn followersFrom stepped kindsBy someIs mayHead headsIn lastOf parentOf childrenFrom parentEntry entriesFrom indexedBy listBy indexed listed
+unfolding computed refusals neighbours steps p0012 p0181 p0133 p0134 p0138 p0164 sameDate pointAt besideFile monthEnds lent copies given expected bytesBefore behind joined onto records fields field extent turned holds words addRecord checksum checksumOf minus unsigned plain intForm intValue decForm decValue spelled decimalIn decimal leap daysIn isDay isDate isTime textForm bolForm periodRange form range valueOf widthRight filled fieldAnswer judgedAs fieldJudged keyOrder numberOrder textOrder digitsOrder wholeOrder among find flowNumber isDigit isText fieldFault fieldsFault lastKind keyWith keyBefore placeFault shapeFault keyFault footerFault kindFault fault checkedFrom ended judgedBy verdict fieldStart placeAt judged isThere fieldValue valueBy valueIn valued footer made barLine butLast sheetOf written readTo kindsIn followersFrom stepped kindsBy someIs mayHead headsIn lastOf parentOf childrenFrom parentEntry entriesFrom indexedBy listBy indexed listed
 computed-right = refl
 
 unfoldable pub table : List Case

@@ -12,4 +12,5 @@ pub mod P0164
 pub mod SameDate
 pub mod PointAt
 pub mod BesideFile
+pub mod MonthEnds
 pub mod Answers

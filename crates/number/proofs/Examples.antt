@@ -3,7 +3,7 @@ use Prim.Native.Nat.{ℕ}
 use Prim.Native.String.{String}
 use mathlib.Core.Path.{_≡_, refl}
 use mathlib.Core.Bool.{Bool, true, false}
-use mathlib.Core.List.{List, [], _∷_}
+use mathlib.Core.List.{List, [], _∷_, map}
 use Rattle.text.specs.Characters.{bytes, isDigit}
 use Rattle.number.specs.Numbers.{minus, unsigned, plain, intForm, decForm}
 use Rattle.number.specs.Calendar.{leap, daysIn, isDay, isDate, isTime}
@@ -106,3 +106,8 @@ table =
 pub number-cases : given table ≡ expected table
 unfolding given expected table isDigit minus unsigned plain intForm decForm leap daysIn isDay isDate isTime
 number-cases = refl
+
+-- the days of February in a hundredth year, in a four hundredth, in a year that is no fourth, and in another fourth
+pub februaries : map (λ y. daysIn y 2) (1900 ∷ 2000 ∷ 2023 ∷ 2024 ∷ []) ≡ 28 ∷ 29 ∷ 28 ∷ 29 ∷ []
+unfolding leap daysIn
+februaries = refl

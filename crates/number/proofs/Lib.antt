@@ -4,4 +4,5 @@ pub mod Digits
 pub mod OnePass
 pub mod ByValue
 pub mod Spelling
+pub mod Months
 pub mod Examples

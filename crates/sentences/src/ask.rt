@@ -18,6 +18,6 @@ fn rule_and_found(form: FieldType, bytes: &[u8], number: usize) -> bool {
 pub fn about_field(form: FieldType, mark: Mark, fixed: &[u8], bytes: &[u8], number: usize) -> bool {
     print(b"The rule: ")
         && rule_and_found(form, bytes, number)
-        && form::right_field(number, form, mark, fixed)
+        && form::right_field(number, form, mark, fixed, bytes)
         && print(b".\n")
 }

@@ -1,4 +1,5 @@
 // Types and marks, and what they ask of a field, in words.
+use crate::calendar;
 use crate::say;
 use field::FieldType;
 use field::Mark;
@@ -65,16 +66,22 @@ fn at_most(n: usize, what: &[u8]) -> bool {
     print(b"at most ") && say::number(n) && print(what)
 }
 
-// The range of a type.
-fn range_words(t: FieldType) -> bool {
+// The range of a type, and of a date that was found out of it, why.
+fn range_words(t: FieldType, found: &[u8]) -> bool {
     match t {
         FieldType::Text(n) => at_most(n, b" characters"),
         FieldType::Int(n) => at_most(n, b" digits, sign not counted"),
         FieldType::Dec(p, _) => at_most(p, b" digits in all"),
-        FieldType::Date => print(b"a day of the Gregorian calendar, years 0001 to 9999"),
-        FieldType::Datetime => print(
-            b"a day of the Gregorian calendar, years 0001 to 9999, hours 00-23, minutes and seconds 00-59",
-        ),
+        FieldType::Date => {
+            print(b"a day of the Gregorian calendar, years 0001 to 9999")
+                && calendar::say_no_day(found)
+        }
+        FieldType::Datetime => {
+            print(
+                b"a day of the Gregorian calendar, years 0001 to 9999, hours 00-23, minutes and seconds 00-59",
+            )
+                && calendar::say_no_day(found)
+        }
         FieldType::Bol => print(b"T or F"),
         FieldType::Period => print(b"1 to 50"),
         FieldType::Null => print(b"always empty"),
@@ -98,15 +105,18 @@ pub fn width_words(t: FieldType) -> bool {
 }
 
 // The form or the range of a type, where that was refused.
-fn asked_words(refusal: usize, t: FieldType) -> bool {
+fn asked_words(refusal: usize, t: FieldType, found: &[u8]) -> bool {
     match refusal {
         8 => print(b": ") && form_words(t),
-        9 => print(b": ") && range_words(t),
+        9 => print(b": ") && range_words(t, found),
         _ => true,
     }
 }
 
 // What a field should be: its type and mark and, for a refusal 8 or 9, the form or the range.
-pub fn right_field(refusal: usize, t: FieldType, mark: Mark, fixed: &[u8]) -> bool {
-    print(b"; the field is ") && form(t) && mark_words(mark, fixed) && asked_words(refusal, t)
+pub fn right_field(refusal: usize, t: FieldType, mark: Mark, fixed: &[u8], found: &[u8]) -> bool {
+    print(b"; the field is ")
+        && form(t)
+        && mark_words(mark, fixed)
+        && asked_words(refusal, t, found)
 }

@@ -31,8 +31,9 @@ fn say_followers(t: &[u32], sep: u8, file: &[u8], n: usize) -> bool {
     kinds::say_followers(t, kind_at(t, sep, file, n - 1))
 }
 
-// What field k of a kind should be.
-fn say_rule(t: &[u32], fixed: &[u8], kind: usize, k: usize, number: usize) -> bool {
+// What the field of a refusal should be, by its kind and what was found in it.
+fn say_rule(t: &[u32], fixed: &[u8], kind: usize, found: &[u8], r: Refusal) -> bool {
+    let k = r.field;
     if k < 2 {
         return true;
     }
@@ -44,7 +45,7 @@ fn say_rule(t: &[u32], fixed: &[u8], kind: usize, k: usize, number: usize) -> bo
     let form = layout::type_at(t, p);
     let mark = layout::mark_at(t, p);
     let value = layout::fixed_at(t, fixed, p);
-    form::right_field(number, form, mark, value)
+    form::right_field(r.number, form, mark, value, found)
 }
 
 // How many fields there are, and how many there should be.
@@ -93,12 +94,17 @@ fn say_key_before(t: &[u32], sep: u8, file: &[u8], kind: usize, r: Refusal) -> b
         && (!layout::may_repeat(t, kind) || print(b", which may come again"))
 }
 
+// The bytes of the field that a refusal names.
+fn found_in<'a>(sep: u8, file: &'a [u8], r: Refusal) -> &'a [u8] {
+    words::part(sep, words::part(FEED, file, r.record), r.field)
+}
+
 // What stands where the refusal is. The footer that the writer adds to a sheet has the sheet's end as its place.
 fn say_found(sep: u8, file: &[u8], r: Refusal) -> bool {
     if sep == TAB && r.place == file.len() {
         return print(b"; found the footer that the writer adds");
     }
-    say::found_field(words::part(sep, words::part(FEED, file, r.record), r.field))
+    say::found_field(found_in(sep, file, r))
 }
 
 // The count or checksum that would be right. A sheet has no footer of its own.
@@ -150,7 +156,7 @@ fn say_field(t: &[u32], fixed: &[u8], sep: u8, file: &[u8], r: Refusal) -> bool 
     match number {
         11 => say_key_before(t, sep, file, kind, r),
         12 | 13 => say_right(sep, file, r),
-        _ => say_rule(t, fixed, kind, r.field, number),
+        _ => say_rule(t, fixed, kind, found_in(sep, file, r), r),
     }
 }
 

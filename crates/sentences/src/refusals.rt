@@ -1,4 +1,5 @@
 // The rule behind each refusal, in words.
+use crate::calendar;
 use crate::say;
 use stream::print;
 ghost use mathlib.Core.Path.{_≡_};
@@ -63,7 +64,12 @@ pub fn has_rule(n: usize) -> bool
     n <= LAST
 }
 
-// The rule of a refusal on a line of its own.
+// The rule of a refusal on a line of its own; that of ranges with the calendar's.
 pub fn explain(n: usize) -> bool {
-    print(b"refusal ") && say::number(n) && print(b": ") && rule(n) && print(b".\n")
+    print(b"refusal ")
+        && say::number(n)
+        && print(b": ")
+        && rule(n)
+        && (n != 9 || calendar::say_months())
+        && print(b".\n")
 }

@@ -245,14 +245,21 @@ pub fn first_and_last_day() -> (i64, i64) {
     (day_number(1, 1, 1), day_number(9999, 12, 31))
 }
 
+/// The number of the last day of any month.
+fn month_end(dice: &mut Dice) -> i64 {
+    let (year, month) = (dice.between(1, 9999) as i64, dice.between(1, 12) as i64);
+    day_number(year, month + 1, 1) - 1
+}
+
 fn date(dice: &mut Dice) -> Vec<u8> {
     let (first, last) = first_and_last_day();
-    match dice.below(6) {
+    match dice.below(7) {
         0 => {
             let edges = ["00010101", "99991231", "20000229", "20240229", "19001231", "04000229", "20240131"];
             dice.pick(&edges).as_bytes().to_vec()
         }
         1 => date_of(first + dice.below((last - first + 1) as usize) as i64),
+        2 => date_of(month_end(dice)),
         _ => date_of(day_number(2020, 1, 1) + dice.below(3000) as i64),
     }
 }
@@ -266,7 +273,6 @@ fn bad_date(dice: &mut Dice) -> Vec<u8> {
     if dice.one_in(2) {
         return dice.pick(&fixed).as_bytes().to_vec();
     }
-    let (year, month) = (dice.between(1, 9999) as i64, dice.between(1, 12) as i64);
-    let length = day_number(year, month + 1, 1) - day_number(year, month, 1);
-    format!("{:04}{:02}{:02}", year, month, length + 1).into_bytes()
+    let (year, month, day) = written_day(month_end(dice));
+    format!("{:04}{:02}{:02}", year, month, day + 1).into_bytes()
 }
