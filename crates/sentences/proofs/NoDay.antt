@@ -1,54 +1,59 @@
--- A part of a date is missing exactly where the date is none: the sentence on a date out of its range never says nothing. Assumes nothing.
-use Prim.Native.Nat.{ℕ, _/_, _%_, _≤_}
-use mathlib.Core.Path.{_≡_, refl}
+-- The part of a date that is missing, by days that are there or not: and one is missing wherever the date is none. Assumes nothing.
+use Prim.Native.Nat.{ℕ, _/_, _%_}
+use mathlib.Core.Path.{_≡_, refl, sym}
 use mathlib.Core.Logic.{_↔_}
-use mathlib.Core.Bool.{Bool, true, false, _&&_}
-use lib.Dec.{leb}
-use native.Mathlib.Omega.{arith}
-use borrow.Author.Tests.{leb-true, le-leb}
-use Rattle.text.specs.Characters.{from-to}
+use mathlib.Core.Bool.{Bool, true, false, cond, _&&_}
+use mathlib.Core.List.{[], _∷_}
+use lib.Dec.{leb, eqb}
+use Rattle.text.specs.Characters.{from-to, one-of}
 use Rattle.text.specs.Rules.{must}
-use Rattle.number.specs.Calendar.{daysIn, isDay, isDate}
-use Rattle.number.proofs.Digits.{and-left, and-right}
+use Rattle.number.specs.Calendar.{leap, daysIn, isDay, isDate}
 use Rattle.sentences.specs.Dates.{missingIn}
+use Rattle.sentences.specs.declared.calendar.Missing.{Missing}
 use Rattle.sentences.specs.declared.calendar.Missing.the-variants.{Year, Month, Day, Nothing}
 
--- a month that has a day has a first one, and so has its year
-module _ (y m d : ℕ) (h : isDay y m d ≡ true) where
-  abbrev month-there : Bool
-  month-there = from-to 1 9999 y && from-to 1 12 m
+-- the three tests
+abbrev tested : Bool → Bool → Bool → Missing
+tested year month day = must year Year (must month Month (must day Day Nothing))
 
-  month-in : month-there ≡ true
-  unfolding isDay
-  month-in = and-left month-there (from-to 1 (daysIn y m) d) h
+-- each with those before it comes to the same
+tests-joined : (a b c : Bool) → tested ((a && true) && true) ((a && b) && true) ((a && b) && c) ≡ tested a b c
+tests-joined true true c = refl
+tests-joined true false c = refl
+tests-joined false b c = refl
 
-  day-in : from-to 1 (daysIn y m) d ≡ true
-  unfolding isDay
-  day-in = and-right month-there (from-to 1 (daysIn y m) d) h
+-- every month has a first day
+some-by : (a b c : Bool) → leb 1 (cond a (cond b 29 28) (cond c 30 31)) ≡ true
+some-by true true c = refl
+some-by true false c = refl
+some-by false b true = refl
+some-by false b false = refl
 
-  first-of-month : isDay y m 1 ≡ true
-  unfolding isDay
-  first-of-month =
-      let from : 1 ≤ d = leb-true _ _ (and-left (leb 1 d) (leb d (daysIn y m)) day-in) in
-      let to : d ≤ daysIn y m = leb-true _ _ (and-right (leb 1 d) (leb d (daysIn y m)) day-in) in
-      rw (month-in, le-leb 1 (daysIn y m) (omega arith))
+some-day : (y m : ℕ) → leb 1 (daysIn y m) ≡ true
+unfolding daysIn
+some-day y m = some-by (eqb m 2) (leap y) (one-of (4 ∷ 6 ∷ 9 ∷ 11 ∷ []) m)
 
-  first-of-year : isDay y 1 1 ≡ true
-  unfolding isDay daysIn
-  first-of-year = rw (and-left (from-to 1 9999 y) (from-to 1 12 m) month-in)
+by-first-days : (v : ℕ) → tested (isDay (v / 10000) 1 1) (isDay (v / 10000) (v / 100 % 100) 1) (isDate v) ≡ missingIn v
+unfolding missingIn isDate isDay
+by-first-days v =
+    let y = v / 10000 in
+    let m = v / 100 % 100 in
+    rw (some-day y 1, some-day y m) (tests-joined (from-to 1 9999 y) (from-to 1 12 m) (from-to 1 (daysIn y m) (v % 100)))
 
--- where nothing is missing, the last test passed
-last-passed : (a b c : Bool) → must a Year (must b Month (must c Day Nothing)) ≡ Nothing → c ≡ true
-last-passed true true true e = refl
-last-passed true true false e = absurd (let z : _≡_ {A = ℕ} 0 1 = cc in omega arith)
-last-passed true false c e = absurd (let z : _≡_ {A = ℕ} 0 1 = cc in omega arith)
-last-passed false b c e = absurd (let z : _≡_ {A = ℕ} 0 1 = cc in omega arith)
+-- so a year is there where its first of January is, and a month where its first day is
+pub found : (v : ℕ) {a b c : Bool} → isDay (v / 10000) 1 1 ≡ a → isDay (v / 10000) (v / 100 % 100) 1 ≡ b → isDate v ≡ c → tested a b c ≡ missingIn v
+found v e f g = rw (sym e, sym f, sym g) (by-first-days v)
 
+all-there : (a b c : Bool) → (tested a b c ≡ Nothing) ↔ (((a && b) && c) ≡ true)
+all-there true true true = (λ e. refl, λ e. refl)
+all-there true true false = (λ e. cc, λ e. cc)
+all-there true false c = (λ e. cc, λ e. cc)
+all-there false b c = (λ e. cc, λ e. cc)
+
+-- nothing is missing exactly where the date is one
 pub nothing-missing : (v : ℕ) → (missingIn v ≡ Nothing) ↔ (isDate v ≡ true)
-unfolding missingIn isDate
+unfolding missingIn isDate isDay
 nothing-missing v =
     let y = v / 10000 in
-    let m = v / 100 % 100 in (
-      last-passed (isDay y 1 1) (isDay y m 1) (isDay y m (v % 100)),
-      λ h. rw (first-of-year y m (v % 100) h, first-of-month y m (v % 100) h, h),
-    )
+    let m = v / 100 % 100 in
+    all-there (from-to 1 9999 y) (from-to 1 12 m) (from-to 1 (daysIn y m) (v % 100))

@@ -17,6 +17,7 @@ use stream::print;
 ghost use mathlib.Core.Path.{_≡_};
 ghost use Prim.Native.Nat.{ℕ};
 ghost use mathlib.Core.List.{List};
+ghost use Rattle.record.specs.Records.{field};
 ghost use Rattle.layout.specs.Numbers.{layoutOf};
 ghost use Rattle.sentences.specs.Footer.{footerLine};
 
@@ -95,7 +96,9 @@ fn say_key_before(t: &[u32], sep: u8, file: &[u8], kind: usize, r: Refusal) -> b
 }
 
 // The bytes of the field that a refusal names.
-fn found_in<'a>(sep: u8, file: &'a [u8], r: Refusal) -> &'a [u8] {
+fn found_in<'a>(sep: u8, file: &'a [u8], r: Refusal) -> &'a [u8]
+    ensures { λ s. ⌜ now s ≡ field sep (r .field) (field 10 (r .record) (now (file .entry))) ⌝ }
+{
     words::part(sep, words::part(FEED, file, r.record), r.field)
 }
 
