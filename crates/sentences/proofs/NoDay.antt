@@ -3,11 +3,10 @@ use Prim.Native.Nat.{ℕ, _/_, _%_}
 use mathlib.Core.Path.{_≡_, refl, sym}
 use mathlib.Core.Logic.{_↔_}
 use mathlib.Core.Bool.{Bool, true, false, cond, _&&_}
-use mathlib.Core.List.{[], _∷_}
-use lib.Dec.{leb, eqb}
-use Rattle.text.specs.Characters.{from-to, one-of}
+use lib.Dec.{leb}
+use Rattle.text.specs.Characters.{from-to}
 use Rattle.text.specs.Rules.{must}
-use Rattle.number.specs.Calendar.{leap, daysIn, isDay, isDate}
+use Rattle.number.specs.Calendar.{daysIn, isDay, isDate}
 use Rattle.sentences.specs.Dates.{missingIn}
 use Rattle.sentences.specs.declared.calendar.Missing.{Missing}
 use Rattle.sentences.specs.declared.calendar.Missing.the-variants.{Year, Month, Day, Nothing}
@@ -31,7 +30,7 @@ some-by false b false = refl
 
 some-day : (y m : ℕ) → leb 1 (daysIn y m) ≡ true
 unfolding daysIn
-some-day y m = some-by (eqb m 2) (leap y) (one-of (4 ∷ 6 ∷ 9 ∷ 11 ∷ []) m)
+some-day y m = rw some-by
 
 by-first-days : (v : ℕ) → tested (isDay (v / 10000) 1 1) (isDay (v / 10000) (v / 100 % 100) 1) (isDate v) ≡ missingIn v
 unfolding missingIn isDate isDay
