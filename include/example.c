@@ -4,6 +4,7 @@
 
      judge FLOW LENGTH    value FLOW RECORD FIELD LENGTH    field TYPE MARK FIXED LENGTH    sum LENGTH
      step FLOW LENGTH     write FLOW ROOM LENGTH            read FLOW ROOM LENGTH              index FLOW ROOM LENGTH
+     import ROOM LENGTH   export FLOW ROOM LENGTH
 
    ROOM is a number of bytes, for index of entries. The line of an index is followed by a line for each entry.
 
@@ -103,10 +104,8 @@ static void judge(struct word flow, screen_size len) {
     rest_is_zero(2);
 }
 
-/* screen_write and screen_read take and leave the same. */
-static void transfer(int write, struct word flow, screen_size size, screen_size len) {
-    lend(size);
-    (write ? screen_write : screen_read)((screen_byte *)flow.at, flow.len, body, len, room, size, answer);
+/* Prints what was made in so many bytes of room, or a refusal. */
+static void put_made(screen_size size) {
     if (refused()) {
         printf("\t%d", kept(0, size));
         return;
@@ -115,6 +114,22 @@ static void transfer(int write, struct word flow, screen_size size, screen_size 
     rest_is_zero(3);
     putchar('\n');
     put_bytes(room, answer[2]);
+}
+
+/* screen_write, screen_read and screen_export take and leave the same. */
+typedef void transfer_call(const screen_byte *, screen_size, const screen_byte *, screen_size, screen_byte *, screen_size,
+                           screen_cell *);
+
+static void transfer(transfer_call *call, struct word flow, screen_size size, screen_size len) {
+    lend(size);
+    call((screen_byte *)flow.at, flow.len, body, len, room, size, answer);
+    put_made(size);
+}
+
+static void import(screen_size size, screen_size len) {
+    lend(size);
+    screen_import(body, len, room, size, answer);
+    put_made(size);
 }
 
 static void value(struct word flow, screen_size record, screen_size field, screen_size len) {
@@ -238,8 +253,10 @@ static int answer_case(void) {
     else if (is("sum", 2)) printf("ok\t0\t%u\t0", screen_checksum(body, len));
     else if (is("step", 3)) step(word[1], len);
     else if (is("value", 5) && number(2, ASKED, &asked) && number(3, ASKED, &more)) value(word[1], asked, more, len);
-    else if (is("write", 4) && number(2, MOST, &asked)) transfer(1, word[1], asked, len);
-    else if (is("read", 4) && number(2, MOST, &asked)) transfer(0, word[1], asked, len);
+    else if (is("write", 4) && number(2, MOST, &asked)) transfer(screen_write, word[1], asked, len);
+    else if (is("read", 4) && number(2, MOST, &asked)) transfer(screen_read, word[1], asked, len);
+    else if (is("export", 4) && number(2, MOST, &asked)) transfer(screen_export, word[1], asked, len);
+    else if (is("import", 3) && number(1, MOST, &asked)) import(asked, len);
     else if (is("index", 4) && number(2, ENTRIES, &asked)) index_file(word[1], 4 * asked, len);
     else return 0;
     return 1;

@@ -13,9 +13,11 @@
    fields count from 1. An answer is four cells. All four are written, whatever they held, and a cell that says nothing is 0:
 
      cell          0                1           2                3
-     any refusal   number, 1 to 19  record or 0 field or 0       byte place
+     any refusal   number, 1 to 20  record or 0 field or 0       byte place
      judge         0                records     0                0
      write, read   0                records     bytes written    0
+     export        0                records     bytes written    0
+     import        0                lines       bytes written    0
      index         0                records     entries          0
      value, field  0                1: empty    0                0
                    0                2: number   its size         1 if below zero, else 0
@@ -24,17 +26,18 @@
      step          0                0           kinds to follow  1 if the list is complete, else 0
                    0                place       0                0; the kind, counted from 1, where the list stopped
 
-   The byte place of a refusal counts from 0, in the file, or for screen_write in the sheet. It is the first byte of the field;
-   of the record where the field is 0 or not there; 0 where the record is 0; and the length where the record is not there, as
-   with 14, with 18 past the last record, and with the footer that screen_write adds.
+   The byte place of a refusal counts from 0, in the file, or for screen_write in the sheet, for screen_import in the text. It
+   is the first byte of the field; of the record where the field is 0 or not there; 0 where the record is 0; and the length
+   where the record is not there, as with 14, with 18 past the last record, and with the footer that screen_write adds. A record
+   of a sheet or a text is its line.
 
    Cell 0 tells a refusal from all else:
       1 no such flow              8 form of a field                15 last line feed absent
-      2 file or sheet too long    9 range of a field               16 bar in a sheet
+      2 more bytes than may be    9 range of a field               16 bar in a sheet or text
       3 record over 512 bytes    10 fixed value or null differs    17 out too short
       4 no kind of this flow     11 key out of its order           18 no such record, field, width or code
       5 kind not allowed here    12 record count wrong             19 cells too few for the entries
-      6 wrong number of fields   13 checksum wrong
+      6 wrong number of fields   13 checksum wrong                 20 not comma-separated text
       7 required field empty     14 records end before ZPT */
 #ifndef SCREEN_H
 #define SCREEN_H
@@ -69,6 +72,18 @@ void screen_write(const screen_byte *flow, screen_size flow_len, const screen_by
 /* Reads a file to a sheet, which goes to out in the same way. file_len bytes are always enough. */
 void screen_read(const screen_byte *flow, screen_size flow_len, const screen_byte *file, screen_size file_len,
                  screen_byte *out, screen_size out_len, screen_cell answer[4]);
+
+/* Exports a file as comma-separated text (RFC 4180), which goes to out in the same way: a line a record, without ZPT, each
+   ended CR LF; a field that holds a comma or a quotation mark stands between quotation marks, and those in it are doubled.
+   3 * file_len bytes are always enough. */
+void screen_export(const screen_byte *flow, screen_size flow_len, const screen_byte *file, screen_size file_len,
+                   screen_byte *out, screen_size out_len, screen_cell answer[4]);
+
+/* Imports comma-separated text as a sheet, which goes to out in the same way. Any quoting that RFC 4180 has of fields without
+   a line break is taken; the last CR LF may be absent; the empty text is the empty sheet. A text or a sheet over 1,048,000
+   bytes is refusal 2; what is no such text, as a line with a tab or a byte that is not printable ASCII, is 20; both before 16,
+   a bar. text_len + 1 bytes are always enough. */
+void screen_import(const screen_byte *text, screen_size text_len, screen_byte *out, screen_size out_len, screen_cell answer[4]);
 
 /* Gives the value of one field of a file that the flow accepts. A dec is a whole number of units of its last place, a date
    or datetime its digits as one number; the places of a text are places in file. */

@@ -33,6 +33,14 @@ extern "C" {
         flow: *const u8, flow_len: usize, file: *const u8, file_len: usize, out: *mut u8, out_len: usize, answer: *mut [u64; 4],
     );
 
+    /// Exports a file as comma-separated text.
+    pub fn screen_export(
+        flow: *const u8, flow_len: usize, file: *const u8, file_len: usize, out: *mut u8, out_len: usize, answer: *mut [u64; 4],
+    );
+
+    /// Imports comma-separated text as a sheet.
+    pub fn screen_import(text: *const u8, text_len: usize, out: *mut u8, out_len: usize, answer: *mut [u64; 4]);
+
     /// Gives the value of one field of a file that the flow accepts.
     pub fn screen_value(
         flow: *const u8, flow_len: usize, file: *const u8, file_len: usize, record: usize, field: usize, answer: *mut [u64; 4],

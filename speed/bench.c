@@ -6,6 +6,7 @@
 #include "../include/screen.h"
 
 #define MOST 1048576
+#define MOST_TEXT 1048000
 #define LINE 128
 // How often all files are gone through, how long the rounds of one line go on each time, and how much one round takes at least.
 #define PASSES 6
@@ -17,7 +18,7 @@ typedef unsigned char byte;
 // A sheet grows line by line up to a size.
 struct sheet { byte *at; size_t len, most; };
 
-static byte sheet_bytes[MOST], file[MOST], peer_out[MOST], screen_out[MOST];
+static byte sheet_bytes[MOST], file[MOST], text[3 * MOST], peer_out[MOST], screen_out[3 * MOST];
 
 // Adds a line, its bars turned to tabs; 0 where there is no room for it.
 static int add(struct sheet *s, const char *line) {
@@ -107,7 +108,7 @@ static const struct flow flows[] = {
 
 // What is timed: a part on a file or its sheet. The peer's answer and the screen's are kept, to be compared.
 static const byte *name;
-static size_t sheet_len, file_len;
+static size_t sheet_len, file_len, text_len;
 static struct peer_answer peer_said;
 static screen_cell screen_said[4];
 
@@ -120,23 +121,39 @@ static void screen_reads(void) { screen_read(name, 8, file, file_len, screen_out
 static void peer_sums(void) { peer_said = (struct peer_answer){ .record = peer_checksum(file, file_len) }; }
 static void screen_sums(void) { screen_said[0] = 0, screen_said[1] = screen_checksum(file, file_len), screen_said[2] = 0; }
 
-// The peer has no index: the screen's own judge stands in its place, so that the ratio says what the entries cost beyond judging.
+// Both accepted, and gave the same records and bytes.
+static int same(void) {
+    return !peer_said.refused && screen_said[0] == 0 && screen_said[1] == peer_said.record && screen_said[2] == peer_said.bytes
+        && !memcmp(peer_out, screen_out, peer_said.bytes);
+}
+
+// The peer has neither index nor comma-separated text: the screen's own judge stands in its place, so that the ratio says what
+// they cost beside judging.
 static screen_cell cells[4 * 65536];
 static void own_judges(void) {
     screen_judges();
     peer_said = (struct peer_answer){ .refused = screen_said[0] != 0, .record = screen_said[1] };
 }
-static void screen_indexes(void) {
-    screen_index(name, 8, file, file_len, cells, sizeof cells / sizeof *cells, screen_said);
-    screen_said[2] = 0;
+static void screen_indexes(void) { screen_index(name, 8, file, file_len, cells, sizeof cells / sizeof *cells, screen_said); }
+static void screen_exports(void) { screen_export(name, 8, file, file_len, screen_out, sizeof screen_out, screen_said); }
+static void screen_imports(void) { screen_import(text, text_len, screen_out, MOST, screen_said); }
+
+// The judge and the part accepted with the same records.
+static int as_judged(void) { return !peer_said.refused && screen_said[0] == 0 && screen_said[1] == peer_said.record; }
+
+// The text gave the front of the sheet that the file was written from.
+static int sheet_again(void) {
+    return !peer_said.refused && screen_said[0] == 0 && screen_said[2] <= sheet_len && !memcmp(sheet_bytes, screen_out, screen_said[2]);
 }
 
-static const struct { const char *name; void (*peer)(void), (*screen)(void); } parts[] = {
-    { "judge", peer_judges, screen_judges },
-    { "write", peer_writes, screen_writes },
-    { "read", peer_reads, screen_reads },
-    { "checksum", peer_sums, screen_sums },
-    { "index", own_judges, screen_indexes },
+static const struct { const char *name; void (*peer)(void), (*screen)(void); int (*right)(void); } parts[] = {
+    { "judge", peer_judges, screen_judges, same },
+    { "write", peer_writes, screen_writes, same },
+    { "read", peer_reads, screen_reads, same },
+    { "checksum", peer_sums, screen_sums, same },
+    { "index", own_judges, screen_indexes, as_judged },
+    { "export", own_judges, screen_exports, as_judged },
+    { "import", own_judges, screen_imports, sheet_again },
 };
 
 // Processor time, so that other programs on the machine count less.
@@ -152,12 +169,6 @@ static double time_of(void (*part)(void), unsigned calls) {
     return (now() - began) / calls;
 }
 
-// Both accepted, and gave the same records and bytes.
-static int same(void) {
-    return !peer_said.refused && screen_said[0] == 0 && screen_said[1] == peer_said.record && screen_said[2] == peer_said.bytes
-        && !memcmp(peer_out, screen_out, peer_said.bytes);
-}
-
 // The best times of one flow, part and size.
 struct times { size_t bytes; double peer, screen; };
 
@@ -167,7 +178,7 @@ static int time_part(size_t p, struct times *best) {
     unsigned calls = file_len < ROUND_BYTES ? ROUND_BYTES / file_len : 1;
     parts[p].peer();
     parts[p].screen();
-    if (!same()) return 0;
+    if (!parts[p].right()) return 0;
     best->bytes = file_len;
     for (int round = 0; round < 5 || now() - began < LINE_NS; round++) {
         double a = time_of(parts[p].peer, calls), b = time_of(parts[p].screen, calls);
@@ -177,7 +188,14 @@ static int time_part(size_t p, struct times *best) {
     return 1;
 }
 
-// A good sheet and file of about this size; 0 where the flow has none so long.
+// The export of the file, as many whole lines of it as import takes.
+static void make_text(void) {
+    screen_export(name, 8, file, file_len, text, sizeof text, screen_said);
+    text_len = screen_said[2];
+    while (text_len > MOST_TEXT || (text_len > 0 && text[text_len - 1] != '\n')) text_len--;
+}
+
+// A good sheet, file and text of about this size; 0 where the flow has none so long.
 static int make(const struct flow *f, size_t size) {
     struct sheet s = { sheet_bytes, 0, size - 32 };
     unsigned set = 0;
@@ -186,6 +204,7 @@ static int make(const struct flow *f, size_t size) {
     name = (const byte *)f->name, sheet_len = s.len;
     struct peer_answer a = peer_write(name, 8, sheet_bytes, sheet_len, file, MOST);
     file_len = a.bytes;
+    make_text();
     return !a.refused;
 }
 

@@ -1,8 +1,9 @@
 //! The answer to a case, as `nightly` prints it: words parted by tabs, a line a case.
-//! A refusal has five words, the place last, and so has judge's `ok`; lines of write, read and index
-//! have a sixth. All other lines have four; a last word of no bytes keeps its tab.
+//! A refusal has five words, the place last, and so has judge's `ok`; lines of write, read, index,
+//! export and import have a sixth. All other lines have four; a last word of no bytes keeps its tab.
 
 use crate::bytes::{checksum, records_of, LINE_FEED};
+use crate::csv::{export, import};
 use crate::field::{judge_field, Value};
 use crate::index::{index, Entry, Indexed};
 use crate::judge::{judge, value};
@@ -14,8 +15,8 @@ use crate::stream::Ask;
 /// The line that ends a run at a header it can't read.
 pub const BAD_HEADER: &[u8] = b"bad header\n";
 
-/// An answer's line, its line feed in, and behind it the bytes of a file or sheet made, or a line
-/// for each entry of an index.
+/// An answer's line, its line feed in, and behind it the bytes of a file, sheet or text made, or a
+/// line for each entry of an index.
 pub fn answer(ask: &Ask) -> Vec<u8> {
     match ask {
         Ask::Judge { flow, file } => match judge(flow, file) {
@@ -31,6 +32,8 @@ pub fn answer(ask: &Ask) -> Vec<u8> {
         Ask::Write { flow, room, sheet } => in_room(*room, |room| write(flow, sheet, room)),
         Ask::Read { flow, room, file } => in_room(*room, |room| read(flow, file, room)),
         Ask::Index { flow, room, file } => in_list(*room, |list| index(flow, file, list)),
+        Ask::Export { flow, room, file } => in_room(*room, |room| export(flow, file, room)),
+        Ask::Import { room, text } => in_room(*room, |room| import(text, room)),
     }
 }
 

@@ -59,13 +59,13 @@ impl Compared {
     }
 }
 
-/// One answer: a line, and behind an accepted write or read its stated bytes and a line feed, behind
-/// an accepted index its stated lines.
+/// One answer: a line, and behind it, if accepted, the stated bytes and a line feed, or behind an
+/// index the stated lines.
 fn take_answer<'a>(answers: &mut &'a [u8], ask: &Ask) -> &'a [u8] {
     let all = *answers;
     let line = take_line(answers);
     match (ask, stated(line)) {
-        (Ask::Write { .. } | Ask::Read { .. }, Some(bytes)) => {
+        (Ask::Write { .. } | Ask::Read { .. } | Ask::Export { .. } | Ask::Import { .. }, Some(bytes)) => {
             *answers = &answers[bytes.saturating_add(1).min(answers.len())..];
         }
         (Ask::Index { .. }, Some(entries)) => {

@@ -6,6 +6,7 @@ pub mod calendar;
 pub mod cases;
 pub mod census;
 pub mod compare;
+pub mod csv;
 pub mod draw;
 pub mod field;
 pub mod flows;

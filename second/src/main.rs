@@ -17,7 +17,7 @@ const USAGE: &str = "usage:
   second census < STREAM
   second compare STREAM ANSWERS [CASE-FILE]
   second draw FLOW > PICTURE.svg
-KINDS is a comma list of judge, value, field, sum, step, write, read, index.";
+KINDS is a comma list of judge, value, field, sum, step, write, read, index, export, import.";
 
 /// What a command comes to: all is well, or something was found, or it could not run.
 enum End {

@@ -70,7 +70,8 @@ fn turned(bytes: &[u8], from: u8, to: u8) -> Vec<u8> {
     bytes.iter().map(|&byte| if byte == from { to } else { byte }).collect()
 }
 
-fn put(result: &[u8], records: usize, room: &mut [u8]) -> Result<Done, Refusal> {
+/// Puts a result into the room, which stays as it was where that is too short.
+pub fn put(result: &[u8], records: usize, room: &mut [u8]) -> Result<Done, Refusal> {
     let part = room.get_mut(..result.len()).ok_or_else(|| Refusal::whole(17))?;
     part.copy_from_slice(result);
     Ok(Done { records, bytes: result.len() })

@@ -11,7 +11,8 @@ pub const ASKED_LIMIT: usize = 1_000_000_000;
 pub const ENTRIES_LIMIT: usize = 8192;
 
 /// The kinds of case, by the first word of their header.
-pub const CASE_KINDS: [&str; 8] = ["judge", "value", "field", "sum", "step", "write", "read", "index"];
+pub const CASE_KINDS: [&str; 10] =
+    ["judge", "value", "field", "sum", "step", "write", "read", "index", "export", "import"];
 
 /// What a case asks, with its body's bytes.
 #[derive(Debug)]
@@ -24,6 +25,8 @@ pub enum Ask<'a> {
     Write { flow: &'a [u8], room: usize, sheet: &'a [u8] },
     Read { flow: &'a [u8], room: usize, file: &'a [u8] },
     Index { flow: &'a [u8], room: usize, file: &'a [u8] },
+    Export { flow: &'a [u8], room: usize, file: &'a [u8] },
+    Import { room: usize, text: &'a [u8] },
 }
 
 impl Ask<'_> {
@@ -38,6 +41,8 @@ impl Ask<'_> {
             Ask::Write { .. } => 5,
             Ask::Read { .. } => 6,
             Ask::Index { .. } => 7,
+            Ask::Export { .. } => 8,
+            Ask::Import { .. } => 9,
         }
     }
 }
@@ -110,6 +115,8 @@ fn first_case(stream: &[u8]) -> Option<(Ask<'_>, usize)> {
         [b"write", flow, room, _] => Ask::Write { flow, room: number(room, LENGTH_LIMIT)?, sheet: body },
         [b"read", flow, room, _] => Ask::Read { flow, room: number(room, LENGTH_LIMIT)?, file: body },
         [b"index", flow, room, _] => Ask::Index { flow, room: number(room, ENTRIES_LIMIT)?, file: body },
+        [b"export", flow, room, _] => Ask::Export { flow, room: number(room, LENGTH_LIMIT)?, file: body },
+        [b"import", room, _] => Ask::Import { room: number(room, LENGTH_LIMIT)?, text: body },
         _ => return None,
     };
     Some((ask, end + 1 + fixed + length))

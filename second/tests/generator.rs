@@ -8,7 +8,7 @@ use second::cases::footers::no_made_footer;
 use second::cases::values::TEXT;
 use second::cases::Generator;
 use second::census::census;
-use second::field::{judge_field, Mark, Type};
+use second::field::{judge_field, Type};
 use second::flows::{named, published};
 use second::judge::{judge, FILE_LIMIT};
 use second::refusal::Refusal;
@@ -35,7 +35,7 @@ fn the_stream_of_seed_1_on_any_machine() {
     let sum = stream
         .iter()
         .fold(0xcbf2_9ce4_8422_2325_u64, |sum, &byte| (sum ^ u64::from(byte)).wrapping_mul(0x0100_0000_01b3));
-    assert_eq!((stream.len(), sum), (3_279_113, 17_849_749_502_996_738_429));
+    assert_eq!((stream.len(), sum), (6_902_811, 5_235_436_980_551_809_883));
 }
 
 #[test]
@@ -48,13 +48,15 @@ fn only_the_kinds_asked_for() {
 
 #[test]
 fn every_refusal_is_reached() {
-    let stream = generator(8, "").stream(4000);
+    let stream = generator(11, "").stream(5200);
     let census = census(&stream).unwrap_or_else(|_| panic!("a good stream"));
     let reader = [1, 2, 3, 4, 5, 6, 7, 8, 9, 10, 11, 12, 13, 14, 15];
-    let all: [(&str, Vec<usize>); 7] = [
+    let all: [(&str, Vec<usize>); 9] = [
         ("judge", reader.to_vec()),
         ("read", [&reader[..], &[17]].concat()),
         ("index", [&reader[..], &[19]].concat()),
+        ("export", [&reader[..], &[17]].concat()),
+        ("import", vec![2, 16, 17, 20]),
         ("value", [&reader[..], &[18]].concat()),
         ("write", vec![1, 2, 3, 4, 5, 6, 7, 8, 9, 10, 11, 12, 13, 15, 16, 17]),
         ("field", vec![7, 8, 9, 10, 18]),

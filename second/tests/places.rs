@@ -3,6 +3,7 @@
 
 use second::bytes::{records_of, BAR, LINE_FEED, TAB};
 use second::cases::Generator;
+use second::csv::{export, import, COMMA};
 use second::index::{index, Entry};
 use second::judge::{judge, value};
 use second::refusal::Refusal;
@@ -19,13 +20,15 @@ struct Refused<'a> {
 
 const BLANK: Entry = Entry { record: 0, place: 0, parent: 0, children: 0 };
 
-/// The refusal of a case with a file or a sheet, if it has one.
+/// The refusal of a case with a file, a sheet or a text, if it has one.
 fn refused<'a>(ask: &Ask<'a>) -> Option<Refused<'a>> {
     let (bytes, parting, refusal) = match *ask {
         Ask::Judge { flow, file } => (file, BAR, judge(flow, file).err()),
         Ask::Value { flow, record, field, file } => (file, BAR, value(flow, file, record, field).err()),
         Ask::Read { flow, room, file } => (file, BAR, read(flow, file, &mut vec![0; room]).err()),
         Ask::Index { flow, room, file } => (file, BAR, index(flow, file, &mut vec![BLANK; room]).err()),
+        Ask::Export { flow, room, file } => (file, BAR, export(flow, file, &mut vec![0; room]).err()),
+        Ask::Import { room, text } => (text, COMMA, import(text, &mut vec![0; room]).err()),
         Ask::Write { flow, room, sheet } => (sheet, TAB, write(flow, sheet, &mut vec![0; room]).err()),
         _ => return None,
     };
@@ -70,6 +73,8 @@ fn clauses(case: &Refused) -> Vec<&'static str> {
         (number == 14 && record > 1 && !is_ended, "no footer behind an unended record"),
         (number == 15 && is_later, "no last line feed"),
         (number == 16 && is_later, "a bar in a later line"),
+        (number == 20 && is_later, "a later line that is not such text"),
+        (number == 20 && record > 100, "such a line far down"),
         (number < 14 && record > records, "the made footer"),
         (record == 0 && number == 18, "record 0 asked for"),
         (record == 0 && number != 18, "the whole"),
@@ -123,6 +128,18 @@ fn places_in_files_that_are_read() {
 #[test]
 fn places_in_files_to_index() {
     hold("index", 2000, &IN_FILES);
+}
+
+#[test]
+fn places_in_files_to_export() {
+    hold("export", 1200, &IN_FILES);
+}
+
+#[test]
+fn places_in_texts() {
+    let in_texts =
+        ["the whole", "a bar in a later line", "a later line that is not such text", "such a line far down"];
+    hold("import", 3000, &in_texts);
 }
 
 #[test]

@@ -85,6 +85,30 @@ fn answers_to_indexes() {
 }
 
 #[test]
+fn answers_to_exports() {
+    let text = "ZHD,P0138001,G,SVAA,Z,POOL,20240105120000\r\nSUB,B,,,20231231,M\r\nTA2,1.0250\r\n";
+    let of = |room: usize| answered(&format!("export\tP0138001\t{}\t88", room), EXAMPLE);
+    assert_eq!(of(75), format!("ok\t0\t4\t75\t0\t1\n{}\n", text));
+    assert_eq!(of(1_114_112), format!("ok\t0\t4\t75\t0\t1\n{}\n", text));
+    assert_eq!(of(74), "refused\t17\t0\t0\t0\t1\n");
+    assert_eq!(answered("export\tP0138001\t0\t72", &EXAMPLE[..72]), "refused\t14\t4\t0\t72\t1\n");
+    assert_eq!(answered("export\tP0138001\t9\t86", &EXAMPLE[..86]), "refused\t13\t4\t3\t78\t1\n");
+    assert_eq!(answered("export\t\t0\t0", b""), "refused\t1\t0\t0\t0\t1\n");
+}
+
+#[test]
+fn answers_to_imports() {
+    let of = |room: usize, text: &[u8]| answered(&format!("import\t{}\t{}", room, text.len()), text);
+    assert_eq!(of(6, b"A,\"B\"\r\nC"), "ok\t0\t2\t6\t0\t1\nA\tB\nC\n\n");
+    assert_eq!(of(1_114_112, b"A"), "ok\t0\t1\t2\t0\t1\nA\n\n");
+    assert_eq!(of(0, b""), "ok\t0\t0\t0\t0\t1\n\n");
+    assert_eq!(of(5, b"A,\"B\"\r\nC"), "refused\t17\t0\t0\t0\t1\n");
+    assert_eq!(of(9, b"A\r\nB|"), "refused\t16\t2\t0\t3\t1\n");
+    assert_eq!(of(9, b"A\r\n|\r\nB\tC"), "refused\t20\t3\t0\t6\t1\n");
+    assert_eq!(of(0, &[b'A'; 1_048_001]), "refused\t2\t0\t0\t0\t1\n");
+}
+
+#[test]
 fn headers_that_cannot_be_read() {
     let bad = [
         "",
@@ -149,6 +173,31 @@ fn headers_of_an_index_that_cannot_be_read() {
 }
 
 #[test]
+fn headers_of_exports_and_imports_that_cannot_be_read() {
+    let bad = [
+        "export",
+        "export\tP0138001\t0",
+        "export\tP0138001\t0\t0\t0",
+        "export\tP0138001\t1114113\t0",
+        "export\tP0138001\t-1\t0",
+        "import",
+        "import\t0",
+        "import\tP0138001\t0\t0",
+        "import\tP0138001\t0",
+        "import\t1114113\t0",
+        "import\t0\t1114113",
+        "import\t\t0",
+        "Import\t0\t0",
+    ];
+    for header in bad {
+        assert!(is_bad(&case(header, b"")), "{:?}", header);
+    }
+    assert!(is_bad(b"import\t0\t3\nab"), "a body cut short");
+    assert!(!is_bad(b"import\t1114112\t3\nabc"));
+    assert!(!is_bad(b"export\t\t1114112\t0\n"));
+}
+
+#[test]
 fn nothing_is_answered_behind_a_bad_header() {
     assert_eq!(cases_of(b"sum\t0\nbad\nsum\t0\n").count(), 2);
 }
@@ -162,6 +211,9 @@ fn the_comparison_finds_every_difference() {
         case("write\tP0138001\t100\t72", &sheet),
         case(&format!("index\tP0133001\t9\t{}", sets.len()), &sets),
         case("index\tP0138001\t9\t88", EXAMPLE),
+        case("export\tP0138001\t100\t88", EXAMPLE),
+        case("import\t9\t8", b"A,B\r\n|\r\n"),
+        case("import\t9\t6", b"E,F\r\nG"),
         case("sum\t3", b"abc"),
         case("step\tP0133001\t3", b"ZHD"),
         case("value\tP0138001\t9\t2\t88", EXAMPLE),
@@ -170,7 +222,7 @@ fn the_comparison_finds_every_difference() {
     .concat();
     let right = answers(&stream);
     let same = compare(&stream, &right);
-    assert_eq!((same.cases, same.differences, same.kept.len()), (8, 0, 0));
+    assert_eq!((same.cases, same.differences, same.kept.len()), (11, 0, 0));
     for place in 0..right.len() {
         let mut other = right.clone();
         other[place] ^= 1;
@@ -193,6 +245,14 @@ fn the_comparison_finds_every_difference() {
     assert_eq!(compare(&stream, &one_entered).differences, 1);
     let far_too_many = replaced(&right, "6\t2\t0\t1\n", "6\t18446744073709551615\t0\t1\n");
     assert!(compare(&stream, &far_too_many).differences > 0);
+    let none_exported = replaced(
+        &right,
+        "4\t75\t0\t1\nZHD,P0138001,G,SVAA,Z,POOL,20240105120000\r\nSUB,B,,,20231231,M\r\nTA2,1.0250\r\n",
+        "4\t0\t0\t1\n",
+    );
+    assert_eq!(compare(&stream, &none_exported).differences, 1);
+    let other_imported = replaced(&right, "2\t6\t0\t1\nE\tF\nG\n", "3\t4\t0\t1\nE\tF\n");
+    assert_eq!(compare(&stream, &other_imported).differences, 1);
     assert_eq!(compare(&stream, &[&right[..], b"more"].concat()).differences, 1);
 }
 
@@ -212,12 +272,16 @@ fn the_census_counts_by_kind_and_number() {
         case("sum\t0", b""),
         case(&format!("index\tP0133001\t2\t{}", sets.len()), &sets),
         case(&format!("index\tP0133001\t1\t{}", sets.len()), &sets),
+        case("export\tP0138001\t75\t88", EXAMPLE),
+        case("import\t9\t1", b"\t"),
     ];
     let counted = |stream: &[u8]| census(stream).unwrap_or_else(|_| panic!("a good stream"));
     let all = counted(&stream.concat());
     assert_eq!((all.taken("judge"), all.taken("sum"), all.refused("judge", 14)), (1, 1, 1));
     assert_eq!((all.taken("index"), all.refused("index", 19), all.refused("read", 19)), (1, 1, 0));
+    assert_eq!((all.taken("export"), all.taken("import"), all.refused("import", 20)), (1, 0, 1));
     assert_eq!(all.not_reached().len(), 17);
     assert!(all.table().ends_with("refusals not reached: 1 2 3 4 5 6 7 8 9 10 11 12 13 15 16 17 18\n"));
-    assert_eq!(counted(&stream[..4].concat()).not_reached().last(), Some(&19));
+    assert_eq!(counted(&stream[..4].concat()).not_reached().last(), Some(&20));
+    assert_eq!(counted(&stream[6..].concat()).not_reached().last(), Some(&19));
 }

@@ -24,9 +24,13 @@ use Rattle.fault.specs.Record.{placeFault, shapeFault, keyFault, footerFault, k
 use Rattle.judge.specs.Record.{lastKind, keyWith, keyBefore, fault}
 use Rattle.judge.specs.File.{checkedFrom, ended, judgedBy, verdict, judged}
 use Rattle.value.specs.Value.{isThere, fieldValue, valueBy, valueIn, valued}
-use Rattle.sheet.specs.Sheets.{footer, made, barLine, butLast, sheetOf}
+use Rattle.sheet.specs.Sheets.{footer, made, barLine, butLast, parted, sheetOf}
 use Rattle.sheet.specs.Write.{written}
 use Rattle.sheet.specs.Read.{readTo}
+use Rattle.rfc4180.specs.Rfc.{textdata}
+use Rattle.rfc4180.specs.Walk.{nextOf, givenOf, stopAt, linesFrom, sheetFrom}
+use Rattle.csv.specs.Export.{doubled, fieldOf, textOf, exportOf, exported}
+use Rattle.csv.proofs.Computed.{computedThrough, computed as imported}
 use Rattle.index.specs.Entries.{kindsBy, someIs, mayHead, headsIn, lastOf, parentOf, childrenFrom, parentEntry, entriesFrom, indexedBy, listBy, indexed, listed}
 use Rattle.answers.proofs.Cases.{copies, Case, given, expected, Right, both-right, bytesBefore, behind}
 use Rattle.answers.proofs.Refusals.{refusals, neighbours}
@@ -43,13 +47,14 @@ use Rattle.answers.proofs.SameDate.{sameDate}
 use Rattle.answers.proofs.PointAt.{pointAt}
 use Rattle.answers.proofs.BesideFile.{lent, besideFile}
 use Rattle.answers.proofs.MonthEnds.{monthEnds}
+use Rattle.answers.proofs.CommaText.{commaText}
 
 -- the cases that are computed; where they fail, fewer of them at a time show which
 unfoldable pub computed : List Case
-computed = refusals ++ neighbours ++ steps ++ p0012 ++ p0181 ++ p0133 ++ p0134 ++ p0138 ++ p0164 ++ sameDate ++ pointAt ++ besideFile ++ monthEnds
+computed = refusals ++ neighbours ++ steps ++ p0012 ++ p0181 ++ p0133 ++ p0134 ++ p0138 ++ p0164 ++ sameDate ++ pointAt ++ besideFile ++ monthEnds ++ commaText
 
 computed-right : Right computed
-unfolding computed refusals neighbours steps p0012 p0181 p0133 p0134 p0138 p0164 sameDate pointAt besideFile monthEnds lent copies given expected bytesBefore behind joined onto records fields field extent turned holds words addRecord checksum checksumOf minus unsigned plain intForm intValue decForm decValue spelled decimalIn decimal leap daysIn isDay isDate isTime textForm bolForm periodRange form range valueOf widthRight filled fieldAnswer judgedAs fieldJudged keyOrder numberOrder textOrder digitsOrder wholeOrder among find flowNumber isDigit isText fieldFault fieldsFault lastKind keyWith keyBefore placeFault shapeFault keyFault footerFault kindFault fault checkedFrom ended judgedBy verdict fieldStart placeAt judged isThere fieldValue valueBy valueIn valued footer made barLine butLast sheetOf written readTo kindsIn followersFrom stepped kindsBy someIs mayHead headsIn lastOf parentOf childrenFrom parentEntry entriesFrom indexedBy listBy indexed listed
+unfolding computed refusals neighbours steps p0012 p0181 p0133 p0134 p0138 p0164 sameDate pointAt besideFile monthEnds commaText lent copies given expected bytesBefore behind joined onto records fields field extent turned holds words addRecord checksum checksumOf minus unsigned plain intForm intValue decForm decValue spelled decimalIn decimal leap daysIn isDay isDate isTime textForm bolForm periodRange form range valueOf widthRight filled fieldAnswer judgedAs fieldJudged keyOrder numberOrder textOrder digitsOrder wholeOrder among find flowNumber isDigit isText fieldFault fieldsFault lastKind keyWith keyBefore placeFault shapeFault keyFault footerFault kindFault fault checkedFrom ended judgedBy verdict fieldStart placeAt judged isThere fieldValue valueBy valueIn valued footer made barLine butLast sheetOf written readTo kindsIn followersFrom stepped kindsBy someIs mayHead headsIn lastOf parentOf childrenFrom parentEntry entriesFrom indexedBy listBy indexed listed parted textdata nextOf givenOf stopAt linesFrom sheetFrom doubled fieldOf textOf exportOf exported computedThrough imported
 computed-right = refl
 
 unfoldable pub table : List Case

@@ -21,6 +21,9 @@ use Rattle.sheet.specs.Write.{written, output, paper}
 use Rattle.sheet.specs.Write as sheet
 use Rattle.sheet.specs.Read.{readTo}
 use Rattle.sheet.specs.declared.Transfer.{Transfer}
+use Rattle.rfc4180.specs.Walk.{atLine, sheetFrom}
+use Rattle.csv.specs.Export.{exportOf, exported}
+use Rattle.csv.proofs.Computed.{computed as imported}
 use Rattle.index.specs.Entries.{indexed, listed}
 use Rattle.index.specs.Entries as index
 use Rattle.index.specs.declared.Entry.{Entry}
@@ -46,7 +49,7 @@ unfolding copies
 copies-length zero b = refl
 copies-length (suc n) b = ap suc (copies-length n b)
 
--- what a public part answers; of the writer and the sheet reader also the bytes of the lent output after it, of the index its list
+-- what a public part answers; of one that makes a file, a sheet or a text also the bytes of the lent output after it, of the index its list
 pub data Said : Type 0 where
   ofFile : judge.Reply → Said
   ofSheet : sheet.Reply → List ℕ → Said
@@ -72,14 +75,18 @@ pub data Case : Type 0 where
   summing : List ℕ → ℕ → Case
   -- a flow, and kinds end to end
   stepping : String → String → Stepped → Case
+  -- a flow, a file and a lent output
+  exporting : String → List ℕ → List ℕ → sheet.Reply → List ℕ → Case
+  -- a text and a lent output
+  importing : List ℕ → List ℕ → sheet.Reply → List ℕ → Case
   -- a flow, a file and a lent list
   indexing : String → List ℕ → List Entry → index.Reply → List Entry → Case
 
--- the answer of the writer or the sheet reader, and the lent output after it
+-- the answer of a part that makes a file, a sheet or a text, and the lent output after it
 abbrev pub transferred : Transfer → List ℕ → List ℕ → Said
 transferred answer result old = ofSheet (paper answer) (output answer result old)
 
--- the answer by the definitions
+-- the answer by the definitions; import's by the walk, which `csv:Computed.computed-right` shows to be the only one that meets its promise
 unfoldable pub given : Case → Said
 given (judging flow f r) = ofFile (judged (bytes flow) f)
 given (writing flow s old r new) = transferred (written (bytes flow) s (length old)) (made s) old
@@ -88,6 +95,8 @@ given (asking flow f n k r) = ofValue (valued (bytes flow) f n k)
 given (ofType t m s r) = ofField (fieldJudged t m (bytes s))
 given (summing s n) = ofSum (checksumOf s)
 given (stepping flow kinds r) = ofStep (stepped (bytes flow) (bytes kinds))
+given (exporting flow f old r new) = transferred (exported (bytes flow) f (length old)) (exportOf f) old
+given (importing text old r new) = transferred (imported text (length old)) (sheetFrom atLine text) old
 given (indexing flow f old r new) = ofIndex (indexed (bytes flow) f (length old)) (listed (bytes flow) f old)
 
 -- the answer by the papers
@@ -99,6 +108,8 @@ expected (asking flow f n k r) = ofValue r
 expected (ofType t m s r) = ofField r
 expected (summing s n) = ofSum n
 expected (stepping flow kinds r) = ofStep r
+expected (exporting flow f old r new) = ofSheet r new
+expected (importing text old r new) = ofSheet r new
 expected (indexing flow f old r new) = ofIndex r new
 
 -- all of some cases are answered as the papers say

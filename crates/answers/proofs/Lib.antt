@@ -13,4 +13,5 @@ pub mod SameDate
 pub mod PointAt
 pub mod BesideFile
 pub mod MonthEnds
+pub mod CommaText
 pub mod Answers

@@ -1,5 +1,6 @@
 // The answer to a case: one line. Each function gives whether all of it was written.
 use crate::header::Ask;
+use crate::header::Making;
 use crate::indexing;
 use crate::room::fill;
 use crate::room::kept;
@@ -55,9 +56,20 @@ fn step_line(flow: &[u8], kinds: &[u8]) -> bool {
     }
 }
 
-// A result in the room: the line of what was done, then the bytes and a line feed; or a refusal.
-fn transfer_line(done: Transfer, room: &[u8]) -> bool {
-    match done {
+// Makes in the room what is asked of a body.
+fn make(making: Making, flow: &[u8], body: &[u8], room: &mut [u8]) -> Transfer {
+    match making {
+        Making::Write => sheet::write(flow, body, room),
+        Making::Read => sheet::read(flow, body, room),
+        Making::Export => csv::export(flow, body, room),
+        Making::Import => csv::import(body, room),
+    }
+}
+
+// What is made in the room: the line of what was done, then the bytes and a line feed; or a refusal.
+fn making_line(making: Making, flow: &[u8], body: &[u8], room: &mut [u8]) -> bool {
+    fill(room);
+    match make(making, flow, body, room) {
         Transfer::Refused(r) => print_numbers(
             b"refused",
             &[r.number, r.record, r.field, r.place, kept(room, 0)],
@@ -70,20 +82,6 @@ fn transfer_line(done: Transfer, room: &[u8]) -> bool {
     }
 }
 
-// A file from a sheet.
-fn write_line(flow: &[u8], sheet: &[u8], room: &mut [u8]) -> bool {
-    fill(room);
-    let done = sheet::write(flow, sheet, room);
-    transfer_line(done, room)
-}
-
-// A sheet from a file.
-fn read_line(flow: &[u8], file: &[u8], room: &mut [u8]) -> bool {
-    fill(room);
-    let done = sheet::read(flow, file, room);
-    transfer_line(done, room)
-}
-
 // Answers a case: what is asked, the flow that its header names, the fixed value and the body behind it, and room for a result.
 pub fn answer(ask: Ask, flow: &[u8], fixed: &[u8], body: &[u8], room: &mut [u8]) -> bool {
     match ask {
@@ -92,13 +90,9 @@ pub fn answer(ask: Ask, flow: &[u8], fixed: &[u8], body: &[u8], room: &mut [u8])
         Ask::Field { form, mark } => field_line(form, mark, fixed, body),
         Ask::Sum => sum_line(body),
         Ask::Step => step_line(flow, body),
-        Ask::Write { room: size } => {
+        Ask::Make { making, room: size } => {
             let n = least(size, room.len());
-            write_line(flow, body, &mut room[0..n])
-        }
-        Ask::Read { room: size } => {
-            let n = least(size, room.len());
-            read_line(flow, body, &mut room[0..n])
+            making_line(making, flow, body, &mut room[0..n])
         }
         Ask::Index { room: size } => indexing::index_line(flow, body, size),
     }

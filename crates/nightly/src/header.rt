@@ -8,6 +8,7 @@ use words::Form;
 use words::Marked;
 use words::Number;
 ghost use mathlib.Core.Path.{_≡_};
+ghost use Prim.Native.Nat.{_≤_};
 ghost use Rattle.record.specs.Records.{field};
 ghost use Rattle.words.specs.Spelling.{numberOf};
 
@@ -20,6 +21,14 @@ const ASKED_LIMIT: usize = 1000000000;
 // The greatest ROOM for entries of an index.
 const ENTRIES_LIMIT: usize = 8192;
 
+// What is made in the room of a case: a file from a sheet, a sheet from a file, a text from a file, a sheet from a text.
+pub enum Making {
+    Write,
+    Read,
+    Export,
+    Import,
+}
+
 // What a case asks, beside the flow in its header and the bytes behind it.
 pub enum Ask {
     Judge,
@@ -27,8 +36,7 @@ pub enum Ask {
     Field { form: FieldType, mark: Mark },
     Sum,
     Step,
-    Write { room: usize },
-    Read { room: usize },
+    Make { making: Making, room: usize },
     Index { room: usize },
 }
 
@@ -127,18 +135,25 @@ fn read_value(header: &[u8]) -> Header {
     )
 }
 
-// write FLOW ROOM LENGTH, read FLOW ROOM LENGTH
-fn read_transfer(writes: bool, header: &[u8]) -> Header {
-    if count_words(header) != 4 {
-        return wrong_words(4, header);
+// A case of so many words, of which only the last two are read here: write FLOW ROOM LENGTH, read FLOW ROOM LENGTH,
+// export FLOW ROOM LENGTH, import ROOM LENGTH
+fn read_making(making: Making, right: usize, header: &[u8]) -> Header
+    requires { ⌜ 1 ≤ right ⌝ }
+{
+    if count_words(header) != right {
+        return wrong_words(right, header);
     }
-    let Number::Is(room) = read_length(word(header, 3)) else {
+    let Number::Is(room) = read_length(word(header, right - 1)) else {
         return Header::Bad(Fault::Room);
     };
-    if writes {
-        return case_of(Ask::Write { room: room }, 0, word(header, 4));
-    }
-    case_of(Ask::Read { room: room }, 0, word(header, 4))
+    case_of(
+        Ask::Make {
+            making: making,
+            room: room,
+        },
+        0,
+        word(header, right),
+    )
 }
 
 // index FLOW ROOM LENGTH
@@ -201,10 +216,16 @@ pub fn read(header: &[u8]) -> Header {
         return read_plain(Ask::Step, 3, header);
     }
     if same_bytes(name, b"write") {
-        return read_transfer(true, header);
+        return read_making(Making::Write, 4, header);
     }
     if same_bytes(name, b"read") {
-        return read_transfer(false, header);
+        return read_making(Making::Read, 4, header);
+    }
+    if same_bytes(name, b"export") {
+        return read_making(Making::Export, 4, header);
+    }
+    if same_bytes(name, b"import") {
+        return read_making(Making::Import, 3, header);
     }
     if same_bytes(name, b"index") {
         return read_index(header);

@@ -1,4 +1,4 @@
--- Each refusal of a file or a sheet has the place of its record and field. Assumes nothing.
+-- Each refusal of a file, a sheet or a text has the place of its record and field. Assumes nothing.
 use Prim.Native.Nat.{ℕ}
 use mathlib.Core.Path.{_≡_, refl, sym, subst}
 use mathlib.Core.Bool.{Bool, true, false, not, cond}
@@ -26,11 +26,16 @@ use Rattle.value.specs.Value.{paper as valuePaper}
 use Rattle.value.specs.declared.Value.{Value}
 use Rattle.value.specs.declared.Value.the-variants as values
 use Rattle.sheet.specs.Sheets.{tab, made, sheetOf, barLine}
-use Rattle.sheet.specs.Write.{linesEnded, asJudged, fitted, written, Wrote}
+use Rattle.sheet.specs.Write.{linesEnded, asJudged, fitted, written, Wrote, Reply, done, refused}
 use Rattle.sheet.specs.Write.{paper as transferPaper}
 use Rattle.sheet.specs.Read.{readTo, Read}
 use Rattle.sheet.specs.declared.Transfer.{Transfer}
 use Rattle.sheet.specs.declared.Transfer.the-variants.{Done, Refused}
+use Rattle.rfc4180.specs.Rfc.{comma}
+use Rattle.rfc4180.proofs.Starting.{start-place}
+use Rattle.csv.specs.Export.{exportOf, exported, Exported}
+use Rattle.csv.specs.Import.{Imported}
+use Rattle.csv.specs.Import as imports
 use Rattle.index.specs.Entries.{indexedBy, answerFor, entriesFor}
 use Rattle.index.specs.declared.Entry.{Entry}
 use Rattle.index.specs.declared.Indexed.{Indexed}
@@ -115,7 +120,7 @@ module _ (f : List ℕ) (es : List Entry) (room : ℕ) where
 pub index-placed : (name f : List ℕ) (room : ℕ) (r : Refusal) → answerFor name f room ≡ indexes.Refused r → Placed bar f r
 index-placed name f room r e = subst (PlacedIndex f) e (read-or-not f (entriesFor name f) room (verdict name f))
 
--- of a sheet that is written, and of a file that is read
+-- of a sheet that is written, and of a file that is read or exported
 module _ (sep : ℕ) (s : List ℕ) where
   first-failing : (b : Bool) (r : Refusal) (t : Transfer) → Placed sep s r → PlacedIn sep s t → PlacedIn sep s (must b (Refused r) t)
   first-failing true r t h g = g
@@ -149,3 +154,25 @@ pub read-placed : {name f : List ℕ} {a : Transfer} {old new : List ℕ} → Re
 unfolding readTo
 read-placed {name} {f} {a} {old} w =
     same-transfer bar f a (readTo name f (length old)) (w .says) (transfer-placed bar f (verdict name f) (length old) (sheetOf f))
+
+pub exported-placed : {name f : List ℕ} {a : Transfer} {old new : List ℕ} → Exported name f a old new → PlacedIn bar f a
+unfolding exported
+exported-placed {name} {f} {a} {old} w =
+    same-transfer bar f a (exported name f (length old)) (w .says) (transfer-placed bar f (verdict name f) (length old) (exportOf f))
+
+-- of a text that is imported
+abbrev PlacedReply : List ℕ → Reply → Type 0
+PlacedReply text (done n b) = Unit
+PlacedReply text (refused number n k p) = p ≡ placeAt comma text n k
+
+reply-placed : {text old new : List ℕ} {a : Reply} → Imported text old a new → PlacedReply text a
+reply-placed {text} (imports.Imported.over h) = sym (at-zero comma text 0 0 refl)
+reply-placed (imports.Imported.stops h x p) = sym (start-place comma p)
+reply-placed {text} (imports.Imported.long x h) = sym (at-zero comma text 0 0 refl)
+reply-placed (imports.Imported.barred x h k p) = sym (start-place comma p)
+reply-placed {text} (imports.Imported.no-room x h z k) = sym (at-zero comma text 0 0 refl)
+reply-placed (imports.Imported.made x h z k) = tt
+
+pub imported-placed : {text old new : List ℕ} (a : Transfer) → Imported text old (transferPaper a) new → PlacedIn comma text a
+imported-placed (Done n b) i = tt
+imported-placed (Refused r) i = reply-placed i

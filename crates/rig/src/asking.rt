@@ -166,10 +166,10 @@ pub fn step_words() -> Ending {
 // explain NUMBER
 pub fn explain_word() -> Ending {
     let Number::Is(n) = number_word(2) else {
-        return hinder(b"NUMBER is 1 to 19");
+        return hinder(b"NUMBER is 1 to 20");
     };
     if !sentences::has_rule(n) {
-        return hinder(b"NUMBER is 1 to 19");
+        return hinder(b"NUMBER is 1 to 20");
     }
     well(sentences::explain(n))
 }

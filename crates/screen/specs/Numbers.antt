@@ -17,6 +17,8 @@ use Rattle.value.specs.Value as values
 use Rattle.sheet.specs.Sheets.{made, sheetOf}
 use Rattle.sheet.specs.Write as writing
 use Rattle.sheet.specs.Read as reading
+use Rattle.csv.specs.Export as exporting
+use Rattle.csv.specs.Import as importing
 
 -- a refusal: its number, record, field and place
 abbrev pub refusalCells : ℕ → ℕ → ℕ → ℕ → List ℕ
@@ -27,7 +29,7 @@ abbrev pub judgeCells : files.Reply → List ℕ
 judgeCells (files.accepted n) = 0 ∷ n ∷ 0 ∷ 0 ∷ []
 judgeCells (files.refused number r f place) = refusalCells number r f place
 
--- writing a file and reading to a sheet: cell 1 is the number of records, cell 2 the number of bytes written
+-- writing a file, reading to a sheet and exporting: cell 1 is the number of records, cell 2 the number of bytes written
 abbrev pub transferCells : writing.Reply → List ℕ
 transferCells (writing.done records bytes) = 0 ∷ records ∷ bytes ∷ 0 ∷ []
 transferCells (writing.refused number r f place) = refusalCells number r f place
@@ -41,6 +43,17 @@ pub record WroteCells (name sheet cells old new : List ℕ) : Type 0 where
 pub record ReadCells (name file cells old new : List ℕ) : Type 0 where
   pub says : cells ≡ transferCells (writing.paper (reading.readTo name file (length old)))
   pub leaves : new ≡ writing.output (reading.readTo name file (length old)) (sheetOf file) old
+
+-- a file exported as comma-separated text: the cells, and every byte that was lent
+pub record ExportedCells (name file cells old new : List ℕ) : Type 0 where
+  pub says : cells ≡ transferCells (writing.paper (exporting.exported name file (length old)))
+  pub leaves : new ≡ writing.output (exporting.exported name file (length old)) (exporting.exportOf file) old
+
+-- comma-separated text imported as a sheet: cell 1 is the number of lines; every byte that was lent
+pub record ImportedCells (text cells old new : List ℕ) : Type 0 where
+  pub reply : writing.Reply
+  pub right : importing.Imported text old reply new
+  pub says : cells ≡ transferCells reply
 
 -- yes is 1, no is 0
 abbrev pub flagOf : Bool → ℕ

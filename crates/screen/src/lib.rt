@@ -1,4 +1,4 @@
-// The eight public parts under C names. An answer is four numbers in a lent array: include/screen.h says what each cell holds.
+// The ten public parts under C names. An answer is four numbers in a lent array: include/screen.h says what each cell holds.
 use field::FieldType;
 use field::Mark;
 use flow::StepAnswer;
@@ -19,7 +19,7 @@ ghost use Rattle.index.specs.Entries.{paper as indexPaper};
 ghost use Rattle.judge.specs.File.{judged, paper as judgePaper};
 ghost use Rattle.sheet.specs.Write.{paper as transferPaper};
 ghost use Rattle.value.specs.Value.{valued, paper as valuePaper};
-ghost use Rattle.screen.specs.Numbers.{refusalCells, judgeCells, transferCells, WroteCells, ReadCells, flagOf, numberCells, valueCells, fieldCells, fieldAsked, stepCells, Stepped, indexCells, FilledCells};
+ghost use Rattle.screen.specs.Numbers.{refusalCells, judgeCells, transferCells, WroteCells, ReadCells, ExportedCells, ImportedCells, flagOf, numberCells, valueCells, fieldCells, fieldAsked, stepCells, Stepped, indexCells, FilledCells};
 
 // A refusal's number, record, field and place.
 fn refusal_cells(r: Refusal) -> [u64; 4]
@@ -51,7 +51,7 @@ pub extern "C" fn screen_judge(flow: &[u8], file: &[u8], answer: &mut [u64; 4])
     *answer = judge_cells(judge::judge(flow, file));
 }
 
-// What is said of a file written or of a sheet read.
+// What is said of a file written or exported, of a sheet read or imported.
 fn transfer_cells(t: Transfer) -> [u64; 4]
     ensures { λ r. ⌜ r ≡ transferCells (transferPaper t) ⌝ }
 {
@@ -75,6 +75,22 @@ pub extern "C" fn screen_read(flow: &[u8], file: &[u8], out: &mut [u8], answer: 
     ensures { λ _. ⌜ ReadCells (now (flow .entry)) (now (file .entry)) (now (answer .exit)) (now (out .entry)) (now (out .exit)) ⌝ }
 {
     *answer = transfer_cells(sheet::read(flow, file, out));
+}
+
+// Exports a file for a flow as comma-separated text in the lent bytes.
+#[no_mangle]
+pub extern "C" fn screen_export(flow: &[u8], file: &[u8], out: &mut [u8], answer: &mut [u64; 4])
+    ensures { λ _. ⌜ ExportedCells (now (flow .entry)) (now (file .entry)) (now (answer .exit)) (now (out .entry)) (now (out .exit)) ⌝ }
+{
+    *answer = transfer_cells(csv::export(flow, file, out));
+}
+
+// Imports comma-separated text as a sheet in the lent bytes.
+#[no_mangle]
+pub extern "C" fn screen_import(text: &[u8], out: &mut [u8], answer: &mut [u64; 4])
+    ensures { λ _. ⌜ ImportedCells (now (text .entry)) (now (answer .exit)) (now (out .entry)) (now (out .exit)) ⌝ }
+{
+    *answer = transfer_cells(csv::import(text, out));
 }
 
 // Yes is 1, no is 0.

@@ -14,4 +14,5 @@ pub use ask::about_field;
 pub use found::about_file;
 pub use refusals::explain;
 pub use refusals::has_rule;
+pub use refusals::rule;
 pub use step::about_stop;

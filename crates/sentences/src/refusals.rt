@@ -6,7 +6,7 @@ ghost use mathlib.Core.Path.{_≡_};
 ghost use Rattle.text.specs.Characters.{from-to};
 
 // The greatest refusal.
-const LAST: usize = 19;
+const LAST: usize = 20;
 
 // The rule that refusal n holds up, 1 to 9.
 fn early_rule(n: usize) -> bool {
@@ -14,7 +14,9 @@ fn early_rule(n: usize) -> bool {
         1 => print(
             b"the flow is one of P0012001, P0181002, P0133001, P0134001, P0138001 and P0164001",
         ),
-        2 => print(b"a file has at most 1,048,576 bytes, and a sheet at most 1,048,000"),
+        2 => print(
+            b"a file has at most 1,048,576 bytes, and a sheet or a comma-separated text at most 1,048,000",
+        ),
         3 => print(b"a record has at most 512 bytes, its line feed not counted"),
         4 => print(b"field 1 is the kind, and it is one of the flow's kinds"),
         5 => print(b"a kind stands only where the flow's grammar has it"),
@@ -25,7 +27,7 @@ fn early_rule(n: usize) -> bool {
     }
 }
 
-// The rule that refusal n holds up, 10 to 19.
+// The rule that refusal n holds up, 10 to 20.
 fn late_rule(n: usize) -> bool {
     match n {
         10 => print(b"a fixed value is given as it is, and a null field is empty"),
@@ -45,7 +47,10 @@ fn late_rule(n: usize) -> bool {
         18 => print(
             b"the record and field that are asked are there; a width is 1 to 512 for text, 1 to 18 for int, and for dec 2 to 18 and then 1 to one less",
         ),
-        _ => print(b"the list has room for all entries of the index"),
+        19 => print(b"the list has room for all entries of the index"),
+        _ => print(
+            b"comma-separated text is that of RFC 4180: commas part the fields, a carriage return and a line feed (hex 0D 0A) end each line, but may be absent at the last, a field with a comma or a quotation mark stands between quotation marks, and each one in it is doubled; a field has bytes 32 to 126 alone: no tab, no line break",
+        ),
     }
 }
 
@@ -56,7 +61,7 @@ pub fn rule(n: usize) -> bool {
 
 // There is a refusal n.
 pub fn has_rule(n: usize) -> bool
-    ensures { λ r. ⌜ r ≡ from-to 1 19 n ⌝ }
+    ensures { λ r. ⌜ r ≡ from-to 1 20 n ⌝ }
 {
     if n < 1 {
         return false;

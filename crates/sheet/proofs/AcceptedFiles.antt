@@ -1,4 +1,4 @@
--- What an accepted file is: lines without a tab, and a footer that is the made one. Assumes nothing.
+-- What an accepted file is: lines of text characters, so without a tab, and a footer that is the made one. Assumes nothing.
 use Prim.Native.Nat.{ℕ, _+_, _-_, _≤_, _<_}
 use mathlib.Core.Path.{_≡_, refl, sym, ap, _∙_}
 use mathlib.Core.Bool.{Bool, true, false, cond, not, false≢true, or-true}
@@ -8,13 +8,15 @@ use lib.Dec.{eqb, leb}
 use lib.ListN.{length, getD, length-append}
 use borrow.Author.Tests.{eqb-true, eqb-false}
 use Rattle.text.proofs.Lists.{three-of}
-use Rattle.record.specs.Records.{onto, records, fields, field, joined, holds, someHolds, bar}
+use Rattle.text.specs.Characters.{all, isDigit, isText}
+use Rattle.record.specs.Records.{onto, records, fields, field, turned, joined, holds, someHolds, bar}
 use Rattle.checksum.specs.Checksum.{checksum}
 use Rattle.record.proofs.Cutting.{neither, records-joined, records-free, joined-ended, joined-not-ended}
 use Rattle.record.proofs.Runs.{fields-some}
+use Rattle.record.proofs.Turned.{turned-same}
 use Rattle.record.proofs.Fields.{field-number}
 use Rattle.number.specs.Numbers.{decimal}
-use Rattle.number.proofs.Digits.{and-right}
+use Rattle.number.proofs.Digits.{and-left, and-right}
 use Rattle.number.proofs.Spelling.{spelled-is}
 use Rattle.layout.specs.Layout.{Rule, Layout, row, isFooter}
 use Rattle.flow.specs.Letters.{ZPT}
@@ -23,29 +25,27 @@ use Rattle.judge.specs.Record.{lastKind}
 use Rattle.judge.specs.File.{checkedFrom, endsInFeed}
 use Rattle.judge.proofs.RightFields.{FineRecord}
 use Rattle.judge.proofs.Passes.{Passes, all-fine, last-closes, last-spells}
-use Rattle.sheet.specs.Sheets.{tab, footer, butLast, withFeed}
+use Rattle.sheet.specs.Sheets.{tab, footer, butLast, parted, withFeed}
 use Rattle.sheet.proofs.Footers.{ProperFooter, lastRow}
 use Rattle.sheet.proofs.MadeFiles.{ends-so}
-use Rattle.sheet.proofs.TabFree.{kind-name, each-free}
+use Rattle.sheet.proofs.Characters.{textRecord, kind-name, each-text, text-free}
 
--- the fields of a record, with their separators again
-parted : ℕ → List (List ℕ) → List ℕ
-parted sep [] = []
-parted sep (p ∷ []) = p
-parted sep (p ∷ q ∷ ps) = p ++ sep ∷ parted sep (q ∷ ps)
-
-parted-go : (sep b : ℕ) (fs : List (List ℕ)) (s : List ℕ) (t : Bool) → eqb b sep ≡ t → 0 < length fs → parted sep fs ≡ s
-    → parted sep (cond t ([] ∷ fs) (onto b fs)) ≡ b ∷ s
+-- the fields of a record with a byte between them are the record, its separators turned to that byte
+parted-go : (from to b : ℕ) (fs : List (List ℕ)) (s : List ℕ) (t : Bool) → 0 < length fs → parted to fs ≡ turned from to s
+    → parted to (cond t ([] ∷ fs) (onto b fs)) ≡ cond t to b ∷ turned from to s
 unfolding parted onto
-parted-go sep b [] s t e h q = absurd (omega arith)
-parted-go sep b (p ∷ fs) s true e h q = λ i. sym (eqb-true b sep e) i ∷ q i
-parted-go sep b (p ∷ []) s false e h q = ap (λ (x : List ℕ). b ∷ x) q
-parted-go sep b (p ∷ g ∷ fs) s false e h q = ap (λ (x : List ℕ). b ∷ x) q
+parted-go from to b [] s t h e = absurd (omega arith)
+parted-go from to b (p ∷ fs) s true h e = ap (λ (x : List ℕ). to ∷ x) e
+parted-go from to b (p ∷ []) s false h e = ap (λ (x : List ℕ). b ∷ x) e
+parted-go from to b (p ∷ q ∷ fs) s false h e = ap (λ (x : List ℕ). b ∷ x) e
+
+pub parted-turned : (from to : ℕ) (r : List ℕ) → parted to (fields from r) ≡ turned from to r
+unfolding parted fields turned
+parted-turned from to [] = refl
+parted-turned from to (b ∷ s) = parted-go from to b (fields from s) s (eqb b from) (fields-some from s) (parted-turned from to s)
 
 parted-fields : (sep : ℕ) (r : List ℕ) → parted sep (fields sep r) ≡ r
-unfolding parted fields
-parted-fields sep [] = refl
-parted-fields sep (b ∷ s) = parted-go sep b (fields sep s) s (eqb b sep) refl (fields-some sep s) (parted-fields sep s)
+parted-fields sep r = parted-turned sep sep r ∙ turned-same sep r
 
 -- the last record of an accepted file is the footer that is made for the records before it
 module _ (l : Layout) (proper : ProperFooter l) (f : List ℕ) (n : ℕ) (p : Passes l f n) (before : List (List ℕ)) (r : List ℕ)
@@ -87,6 +87,11 @@ last-split [] h = absurd (omega arith)
 last-split (r ∷ []) h = refl
 last-split (r ∷ q ∷ rs) h = ap (λ (x : List (List ℕ)). r ∷ x) (last-split (q ∷ rs) (omega arith))
 
+all-front : (test : List ℕ → Bool) (ps : List (List ℕ)) (q : List ℕ) → all test (ps ++ q ∷ []) ≡ true → all test ps ≡ true
+all-front test [] q h = refl
+all-front test (p ∷ ps) q h =
+    rw (and-left (test p) (all test (ps ++ q ∷ [])) h) (all-front test ps q (and-right (test p) (all test (ps ++ q ∷ [])) h))
+
 pub none-front : (b : ℕ) (ps : List (List ℕ)) (q : List ℕ) → someHolds b (ps ++ q ∷ []) ≡ false → someHolds b ps ≡ false
 unfolding someHolds
 none-front b [] q h = refl
@@ -99,7 +104,7 @@ unfolding lastKind
 some-record l [] e = absurd (false≢true e)
 some-record l (r ∷ rs) e = omega arith
 
--- an accepted file: its lines hold no tab, and its last record is the footer that is made for them
+-- an accepted file: its lines are of text characters, so hold no tab, and its last record is the footer that is made for them
 module _ (l : Layout) (proper : ProperFooter l) (f : List ℕ) (n : ℕ) (p : Passes l f n) where
   abbrev lines : List (List ℕ)
   lines = butLast (records f)
@@ -107,8 +112,13 @@ module _ (l : Layout) (proper : ProperFooter l) (f : List ℕ) (n : ℕ) (p : Pa
   split : records f ≡ lines ++ lastOf (records f) ∷ []
   split = last-split (records f) (some-record l (records f) (p .closes))
 
+  -- of text characters
+  pub lines-text : all textRecord lines ≡ true
+  lines-text = all-front textRecord lines (lastOf (records f)) (ap (all textRecord) (sym split) ∙ each-text l proper [] (records f) (all-fine l f n p))
+
   pub lines-no-tab : someHolds tab lines ≡ false
-  lines-no-tab = none-front tab lines (lastOf (records f)) (ap (someHolds tab) (sym split) ∙ each-free l proper [] (records f) (all-fine l f n p))
+  unfolding isText isDigit
+  lines-no-tab = text-free tab refl (λ e. omega arith) lines lines-text
 
   pub records-split : records f ≡ lines ++ footer (length lines + 1) (checksum lines) ∷ []
   records-split = split ∙ ap (λ (r : List ℕ). lines ++ r ∷ []) (footer-made l proper f n p lines (lastOf (records f)) split)

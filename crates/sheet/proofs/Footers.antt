@@ -1,21 +1,22 @@
 -- The footer that is made: its fields, and that only the grammar can refuse it. Assumes nothing.
 use Prim.Native.Nat.{ℕ, zero, suc, _+_, _-_, _^_, _≤_, _<_}
-use mathlib.Core.Path.{_≡_, refl, ap, _∙_}
+use mathlib.Core.Path.{_≡_, refl, sym, ap, _∙_}
 use mathlib.Core.Bool.{Bool, true, false}
 use mathlib.Core.List.{List, [], _∷_, _++_, map}
 use native.Mathlib.Omega.{arith}
 use lib.Dec.{eqb, lit≤}
-use lib.ListN.{length, getD, length-append, List·getD-map}
+use lib.ListN.{length, getD, drop, length-append, List·getD-map}
+use lib.Seq.{getD-drop}
 use borrow.Author.Tests.{eq-eqb, ne-eqb, le-leb}
-use Rattle.text.specs.Characters.{isDigit}
+use Rattle.text.specs.Characters.{all, isDigit, isText}
 use Rattle.text.specs.Rules.{must}
-use Rattle.record.specs.Records.{onto, fields, holds, someHolds, bar}
-use Rattle.record.proofs.Cutting.{neither, some-at}
+use Rattle.record.specs.Records.{onto, fields, holds, bar}
+use Rattle.record.proofs.Cutting.{neither}
 use Rattle.record.proofs.Fields.{field-number}
 use Rattle.number.specs.Numbers.{decimal, unsigned}
 use Rattle.field.specs.Types.{form, range, valueOf}
 use Rattle.field.specs.Judge.{fieldAnswer, filled}
-use Rattle.number.proofs.Digits.{plain-some}
+use Rattle.number.proofs.Digits.{and-left, and-right, plain-some}
 use Rattle.number.proofs.ByValue.{bare-is, no-sign}
 use Rattle.number.proofs.Spelling.{decimal-plain, decimal-digits, decimal-short, decimal-int, decimal-spelled}
 use Rattle.layout.specs.Layout.{KindRow, Layout, row, blank, find, mayFollow, kindNamed, isFooter}
@@ -27,25 +28,25 @@ use Rattle.fault.specs.Record.{kindOf, placeFault, shapeFault, keyFault, footer
 use Rattle.judge.specs.Record.{lastKind, sumOf, fault}
 use Rattle.fault.specs.declared.Check.{Check}
 use Rattle.fault.specs.declared.Check.the-variants.{Fine, Fault}
-use Rattle.sheet.specs.Sheets.{tab, footer}
+use Rattle.sheet.specs.Sheets.{footer}
 use Rattle.sheet.proofs.Holding.{none-append, none-passing}
 
 -- the last kind of a layout
 abbrev pub lastRow : Layout → ℕ
 lastRow l = length (l .rows) - 1
 
--- the last kind of a layout is ZPT with two ints of at most 10 digits and no key, and no kind's name holds a tab
+-- the last kind of a layout is ZPT with two ints of at most 10 digits and no key, and every kind's name is of text characters
 pub record ProperFooter (l : Layout) : Type 0 where
   pub found : kindNamed l ZPT ≡ lastRow l
   pub some : 1 ≤ lastRow l
   pub name : row l (lastRow l) .name ≡ ZPT
   pub rules : row l (lastRow l) .rules ≡ int 10 ∷ int 10 ∷ []
   pub key : row l (lastRow l) .key ≡ 0
-  pub names : someHolds tab (map (λ (r : KindRow). r .name) (l .rows)) ≡ false
+  pub names : all (all isText) (map (λ (r : KindRow). r .name) (drop 1 (l .rows))) ≡ true
 
 -- so it is in each flow that we hold, by computing
 proper-from : (i : ℕ) → ProperFooter (layoutFor (getD flows i p0012))
-unfolding find someHolds holds
+unfolding find isText isDigit
 proper-from zero = record { found = refl; some = lit≤ tt; name = refl; rules = refl; key = refl; names = refl }
 proper-from (suc zero) = record { found = refl; some = lit≤ tt; name = refl; rules = refl; key = refl; names = refl }
 proper-from (suc (suc zero)) = record { found = refl; some = lit≤ tt; name = refl; rules = refl; key = refl; names = refl }
@@ -57,10 +58,20 @@ proper-from (suc (suc (suc (suc (suc (suc i)))))) = record { found = refl; some 
 pub properFooter : (n : ℕ) → ProperFooter (layoutFor (flowAt n))
 properFooter n = proper-from (n - 1)
 
--- no kind's name holds a tab
-pub name-free : (l : Layout) → ProperFooter l → (k : ℕ) → holds tab (row l k .name) ≡ false
-name-free l p k =
-    rw (← List·getD-map (λ (r : KindRow). r .name) (l .rows) k blank) (some-at tab (map (λ (r : KindRow). r .name) (l .rows)) (p .names) k)
+-- every kind's name is of text characters; row 0 is no kind's
+name-at : (ps : List (List ℕ)) → all (all isText) ps ≡ true → (k : ℕ) → all isText (getD ps k []) ≡ true
+name-at [] h k = refl
+name-at (p ∷ ps) h zero = and-left (all isText p) (all (all isText) ps) h
+name-at (p ∷ ps) h (suc k) = name-at ps (and-right (all isText p) (all (all isText) ps) h) k
+
+pub name-text : (l : Layout) → ProperFooter l → (k : ℕ) → (k ≡ 0 → ⊥) → all isText (row l k .name) ≡ true
+name-text l p k h =
+    let kinds = drop 1 (l .rows) in
+    let z : 1 + (k - 1) ≡ k = omega arith in
+    let is : getD kinds (k - 1) blank ≡ row l k = getD-drop 1 (l .rows) (k - 1) blank ∙ ap (row l) z in
+    let t : all isText (getD kinds (k - 1) blank .name) ≡ true =
+    rw (← List·getD-map (λ (r : KindRow). r .name) kinds (k - 1) blank) (name-at (map (λ (r : KindRow). r .name) kinds) (p .names) (k - 1)) in
+    ap (λ (r : KindRow). all isText (r .name)) (sym is) ∙ t
 
 -- fields as they are written: one with its separator, and the last
 pub fields-part : (sep : ℕ) (a b : List ℕ) → holds sep a ≡ false → fields sep (a ++ sep ∷ b) ≡ a ∷ fields sep b

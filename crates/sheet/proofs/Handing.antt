@@ -5,7 +5,7 @@ use mathlib.Core.List.{List, [], _∷_, _++_, append-assoc}
 use native.Mathlib.Nat.{zero-add}
 use native.Mathlib.Omega.{arith}
 use lib.ListN.{length, take, drop}
-use lib.Seq.{length-take-le, take-length}
+use lib.Seq.{length-take-le}
 use borrow.Author.Tests.{le-leb, lt-leb}
 use Rattle.record.specs.Records.{records, turned, joined, bar}
 use Rattle.record.proofs.Turned.{turned-length}
@@ -57,14 +57,12 @@ module _ (sheet old : List ℕ) (n sum : ℕ) (t : Totals sheet n sum) where
       λ i. length (footer (t .count i) (t .total i)) in
       omega (arith, made-length sheet)
 
-  pub made-put : (first new : List ℕ) → length sheet ≤ length old → first ≡ turned tab bar (take (length sheet) sheet) ++ drop (length sheet) old
+  pub made-put : (first new : List ℕ) → length sheet ≤ length old → first ≡ put old 0 front
       → new ≡ put first (length sheet) (footer n sum ++ 0x0A ∷ []) → new ≡ made sheet ++ drop (length (made sheet)) old
   unfolding made
-  made-put first new h e f =
+  made-put first new h is f =
       let foot = footer n sum ++ 0x0A ∷ [] in
       let start : length sheet ≡ 0 + length front = omega (arith, turned-length tab bar sheet) in
-      let is : first ≡ put old 0 front =
-      e ∙ ap (λ (x : List ℕ). turned tab bar x ++ drop (length sheet) old) (take-length sheet) ∙ ap (λ (k : ℕ). front ++ drop k old) start in
       let whole : front ++ foot ≡ made sheet =
       (λ i. front ++ (footer (t .count i) (t .total i) ++ 0x0A ∷ []))
       ∙ sym (append-assoc front (footer (length (records sheet) + 1) (checksumOf front)) (0x0A ∷ [])) in
@@ -98,12 +96,14 @@ module _ (name f old : List ℕ) where
           leaves = refl;
         }
 
-    pub read-done : (new : List ℕ) → b ≤ length old → new ≡ turned bar tab (take b f) ++ drop b old → Read name f (Done n b) old new
+    pub read-done : (new : List ℕ) → b ≤ length old → new ≡ put old 0 (turned bar tab (take b f)) → Read name f (Done n b) old new
     read-done new h e =
         let room : length (sheetOf f) ≤ length old = omega (arith, size) in
+        let put-so : new ≡ sheetOf f ++ drop b old =
+        e ∙ ap (put old 0) (sym sheet-is) ∙ ap (λ (k : ℕ). sheetOf f ++ drop k old) (zero-add (length (sheetOf f)) ∙ size) in
         record {
           says =
               ap (λ (k : ℕ). paper (Done n k)) (sym size) ∙ ap paper (sym (fits (length old) (sheetOf f) n room))
               ∙ read-is (files.Accepted n) accepts;
-          leaves = e ∙ ap (λ (x : List ℕ). x ++ drop b old) (sym sheet-is);
+          leaves = put-so;
         }

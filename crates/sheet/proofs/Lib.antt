@@ -5,14 +5,16 @@ pub mod Footers
 pub mod MadeFiles
 pub mod Looking
 pub mod Putting
+pub mod Puts
 pub mod Numerals
 pub mod FooterPut
 pub mod Starts
 pub mod SamePlace
 pub mod Verdicts
 pub mod Handing
-pub mod TabFree
+pub mod Characters
 pub mod AcceptedFiles
+pub mod Accepted
 pub mod RoundTrip
 pub mod Examples
 pub mod Reading

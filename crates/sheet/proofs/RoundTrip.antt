@@ -14,7 +14,7 @@ use Rattle.text.proofs.Inverse.{same-said}
 use Rattle.record.specs.Records.{records, turned, barred, joined, holds, someHolds, bar}
 use Rattle.checksum.specs.Checksum.{checksum, checksumOf}
 use Rattle.record.proofs.Turned.{turned-back, turned-gone, turned-joined, records-turned-length}
-use Rattle.record.proofs.Cutting.{records-joined, records-free, records-le, joined-append}
+use Rattle.record.proofs.Cutting.{records-joined, records-free, joined-append}
 use Rattle.checksum.proofs.Sums.{checksumOf-joined}
 use Rattle.place.specs.Places.{refusal, refusalAt, whole}
 use Rattle.place.specs.declared.Refusal.{Refusal}
@@ -24,7 +24,7 @@ use Rattle.flow.specs.Flows.{held, flowNumber, flowNamed}
 use Rattle.judge.specs.File.{endsInFeed, verdict, withPlace, judgedBy}
 use Rattle.judge.specs.declared.Verdict.{Verdict}
 use Rattle.judge.specs.declared.Verdict.the-variants as verdicts
-use Rattle.judge.proofs.Passes.{Passes, passes, passed, must-accepted}
+use Rattle.judge.proofs.Passes.{Passes, passed, must-accepted}
 use Rattle.sheet.specs.Sheets.{tab, footer, made, butLast, sheetOf, withFeed}
 use Rattle.sheet.specs.Write.{linesEnded, asJudged, fitted, written, Reply, done, refused, paper, output, Wrote}
 use Rattle.sheet.specs.Read.{readTo, Read}
@@ -35,7 +35,8 @@ use Rattle.sheet.proofs.Footers.{properFooter, foot-length}
 use Rattle.sheet.proofs.MadeFiles.{made-length, records-made, sheet-turned, ends-so}
 use Rattle.sheet.proofs.Starts.{butLast-snoc}
 use Rattle.sheet.proofs.Handing.{fits}
-use Rattle.sheet.proofs.AcceptedFiles.{none-front, records-split, lines-no-tab, feed-joined, feed-long, feed-passes}
+use Rattle.sheet.proofs.Accepted.{accepted-held, accepted-passes, accepted-split, accepted-some}
+use Rattle.sheet.proofs.AcceptedFiles.{none-front, lines-no-tab, feed-joined, feed-long, feed-passes}
 
 -- the writer takes a sheet: the sheet's own rules hold, the judge accepts the made file, and there is room
 pub record Takes (name sheet : List ℕ) (room n b : ℕ) : Type 0 where
@@ -133,6 +134,7 @@ unfolding joined
 joined-ends [] = refl
 joined-ends (r ∷ rs) = ends-before r (joined rs) (joined-ends rs)
 
+-- where it is short enough, the file that is made of its sheet is the same with its last line feed
 module _ (name f : List ℕ) (n : ℕ) (accepts : verdict name f ≡ verdicts.Accepted n) (short : length f ≤ 1048000) where
   abbrev l : Layout
   l = layoutFor (flowNamed name)
@@ -140,18 +142,14 @@ module _ (name f : List ℕ) (n : ℕ) (accepts : verdict name f ≡ verdicts.Ac
   abbrev lines : List (List ℕ)
   lines = butLast (records f)
 
-  tests : (held name ≡ true) × (judgedBy l f ≡ verdicts.Accepted n)
-  unfolding verdict
-  tests = must-accepted (held name) 1 0 0 n (judgedBy l f) accepts
-
   right : Passes l f n
-  right = passes l f n (tests .1)
+  right = accepted-passes name f n accepts
 
   split : records f ≡ lines ++ footer (length lines + 1) (checksum lines) ∷ []
-  split = records-split l (properFooter (flowNumber name)) f n right
+  split = accepted-split name f n accepts
 
   some : 0 < length f
-  some = omega (arith, records-le f, ap length split, length-append lines (footer (length lines + 1) (checksum lines) ∷ []))
+  some = accepted-some name f n accepts
 
   front : turned tab bar (sheetOf f) ≡ joined lines
   unfolding sheetOf
@@ -178,7 +176,7 @@ module _ (name f : List ℕ) (n : ℕ) (accepts : verdict name f ≡ verdicts.Ac
 
   still-accepts : verdict name (made (sheetOf f)) ≡ verdicts.Accepted n
   unfolding verdict
-  still-accepts = ap (verdict name) made-is ∙ rw (tests .0) (passed l (withFeed f) n (feed-passes l f n some (omega arith) right))
+  still-accepts = ap (verdict name) made-is ∙ rw (accepted-held name f n accepts) (passed l (withFeed f) n (feed-passes l f n some (omega arith) right))
 
   no-bar : holds bar (sheetOf f) ≡ false
   unfolding sheetOf
@@ -233,6 +231,14 @@ module _ (name s : List ℕ) (a b : Transfer) (old new new′ : List ℕ) where
   pub one-read : Read name s a old new → Read name s b old new′ → (a ≡ b) × (new ≡ new′)
   one-read p q = one-transfer a b (readTo name s (length old)) (sheetOf s) old new new′ (p .says) (q .says) (p .leaves) (q .leaves)
 
+-- where a result of an accepted file was handed over, the judge's answer and how many bytes it has
+pub done-accepts : (name f result : List ℕ) (room n b : ℕ) → asJudged (withPlace bar f (verdict name f)) (fitted room result) ≡ Done n b
+    → (verdict name f ≡ verdicts.Accepted n) × (b ≡ length result)
+done-accepts name f result room n b e =
+    let v = judged-done bar f (verdict name f) (fitted room result) n b e in
+    let t = must-done (leb (length result) room) (whole 17) n b (Done (v .0) (length result)) (v .2) in
+    (v .1 ∙ ap verdicts.Accepted (same-records (t .1)), same-bytes (t .1))
+
 -- both round trips, in the bytes that are lent
 module _ (name : List ℕ) (n b : ℕ) (old new : List ℕ) (answer : Transfer) (old′ new′ : List ℕ) where
   -- a sheet written, and what was written read
@@ -256,11 +262,9 @@ module _ (name : List ℕ) (n b : ℕ) (old new : List ℕ) (answer : Transfer) 
   unfolding readTo
   file-returns f r short w h =
       let says = same-answer (Done n b) (readTo name f (length old)) (r .says) in
-      let v = judged-done bar f (verdict name f) (fitted (length old) (sheetOf f)) n b (sym says) in
-      let t = must-done (leb (length (sheetOf f)) (length old)) (whole 17) n b (Done (v .0) (length (sheetOf f))) (v .2) in
-      let accepts = v .1 ∙ ap verdicts.Accepted (same-records (t .1)) in
-      let back = file-back name f n accepts short in
-      let sheet : take b new ≡ sheetOf f = ap (take b) (r .leaves) ∙ take-at (sheetOf f) (drop b old) b (sym (same-bytes (t .1))) in
+      let t = done-accepts name f (sheetOf f) (length old) n b (sym says) in
+      let back = file-back name f n (t .0) short in
+      let sheet : take b new ≡ sheetOf f = ap (take b) (r .leaves) ∙ take-at (sheetOf f) (drop b old) b (sym (t .1)) in
       let is : answer ≡ Done n (length (withFeed f)) =
       same-answer answer (written name (take b new) (length old′)) (w .says) ∙ ap (λ (s : List ℕ). written name s (length old′)) sheet ∙ back .1 (length old′) h in (
         is,

@@ -32,6 +32,12 @@ butLast [] = []
 butLast (r ∷ []) = []
 butLast (r ∷ q ∷ rs) = r ∷ butLast (q ∷ rs)
 
+-- some fields with a byte between each two of them
+unfoldable pub parted : ℕ → List (List ℕ) → List ℕ
+parted sep [] = []
+parted sep (x ∷ []) = x
+parted sep (x ∷ y ∷ xs) = x ++ sep ∷ parted sep (y ∷ xs)
+
 -- the sheet of a file: all records before ZPT with bars turned to tabs, each line ended by a line feed
 unfoldable pub sheetOf : List ℕ → List ℕ
 sheetOf f = turned bar tab (joined (butLast (records f)))

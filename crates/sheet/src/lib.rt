@@ -39,14 +39,14 @@ pub enum Made {
 }
 
 // The byte a is b, or one before it was.
-fn seen(a: u8, b: u8, before: bool) -> bool
+pub fn seen(a: u8, b: u8, before: bool) -> bool
     ensures { λ r. ⌜ r ≡ (eqb a b || before) ⌝ }
 {
     if a == b { true } else { before }
 }
 
 // The byte b stands among the bytes of s. All are looked at, since a sheet that passes has no bar.
-fn has_byte(s: &[u8], b: u8) -> bool
+pub fn has_byte(s: &[u8], b: u8) -> bool
     ensures { λ r. ⌜ r ≡ holds b (now (s .entry)) ⌝ }
 {
     let mut found = false;
@@ -59,7 +59,7 @@ fn has_byte(s: &[u8], b: u8) -> bool
 }
 
 // The first line of a sheet that has a bar, counted from 1; 0 where none has.
-fn first_bar_line(sheet: &[u8]) -> usize
+pub fn first_bar_line(sheet: &[u8]) -> usize
     ensures { λ r. ⌜ r ≡ barLine 1 (records (now (sheet .entry))) ⌝ }
 {
     let mut c = record::Cursor { at: 0 };
@@ -202,14 +202,14 @@ fn turn(from: u8, to: u8, b: u8) -> u8
     if b == from { to } else { b }
 }
 
-// The first n bytes of s, each `from` turned to `to`, at the front of out.
-fn put_turned(out: &mut [u8], s: &[u8], n: usize, from: u8, to: u8)
-    requires { ⌜ (n ≤ length (now s)) × (n ≤ length (now out)) ⌝ }
-    ensures { λ _. ⌜ now (out .exit) ≡ turned from to (take n (now (s .entry))) ++ drop n (now (out .entry)) ⌝ }
+// The bytes of s put from `at` on, each `from` turned to `to`.
+pub fn put_turned(out: &mut [u8], at: usize, s: &[u8], from: u8, to: u8)
+    requires { ⌜ at + length (now s) ≤ length (now out) ⌝ }
+    ensures { λ _. ⌜ now (out .exit) ≡ put (now (out .entry)) at (turned from to (now (s .entry))) ⌝ }
 {
     let mut i = 0;
-    while i < n {
-        out[i] = turn(from, to, s[i]);
+    while i < s.len() {
+        out[at + i] = turn(from, to, s[i]);
         i += 1;
     }
 }
@@ -277,7 +277,7 @@ fn put_footer(out: &mut [u8], at: usize, records: usize, sum: u32)
 }
 
 // Where the last record of a file starts. The last byte is its line feed, or stands in it.
-fn last_start(f: &[u8]) -> usize
+pub fn last_start(f: &[u8]) -> usize
     ensures { λ r. ⌜ (r ≤ length (now (f .entry))) × (joined (butLast (records (now (f .entry)))) ≡ take r (now (f .entry))) ⌝ }
 {
     if f.len() == 0 {
@@ -309,7 +309,7 @@ pub fn write(flow: &[u8], sheet: &[u8], out: &mut [u8]) -> Transfer
             if out.len() < bytes {
                 return Transfer::Refused(place::whole(17));
             }
-            put_turned(out, sheet, at, TAB, BAR);
+            put_turned(out, 0, sheet, TAB, BAR);
             put_footer(out, at, records, sum);
             Transfer::Done { records, bytes }
         }
@@ -327,7 +327,7 @@ pub fn read(flow: &[u8], file: &[u8], out: &mut [u8]) -> Transfer
             if out.len() < end {
                 return Transfer::Refused(place::whole(17));
             }
-            put_turned(out, file, end, BAR, TAB);
+            put_turned(out, 0, &file[..end], BAR, TAB);
             Transfer::Done {
                 records,
                 bytes: end,

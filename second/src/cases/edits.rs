@@ -4,7 +4,7 @@ use super::dice::Dice;
 use super::values::letters;
 
 /// Bytes that are worth trying anywhere.
-pub const LOUD: &[u8] = b"|\n\r\t\x00\xff \x7f\x800149-+.ATFZz_{";
+pub const LOUD: &[u8] = b"|\n\r\t\x00\xff \x7f\x800149-+.,\"ATFZz_{";
 
 /// One edit of the bytes, mostly one byte spoiled.
 pub fn edit(bytes: &mut Vec<u8>, dice: &mut Dice) {

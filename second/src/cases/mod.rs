@@ -10,17 +10,19 @@ pub mod heads;
 pub mod keys;
 pub mod parts;
 pub mod sweep;
+pub mod texts;
 pub mod values;
 
 use crate::bytes::{fields_of, records_of};
+use crate::csv::{imported, made_text};
 use crate::sheet::{made_file, made_sheet};
 use crate::stream::{ASKED_LIMIT, CASE_KINDS, ENTRIES_LIMIT, LENGTH_LIMIT};
 use dice::Dice;
 use files::{given, Given};
-use sweep::{swept, swept_field, Swept};
+use sweep::{swept, swept_field, swept_text, Swept};
 
 /// What comes in one round: each kind of case, so many by the dice, so many from a sweep.
-const ROUND: [(&str, usize, usize); 8] = [
+const ROUND: [(&str, usize, usize); 10] = [
     ("judge", 8, 2),
     ("value", 3, 1),
     ("field", 4, 2),
@@ -29,6 +31,8 @@ const ROUND: [(&str, usize, usize); 8] = [
     ("write", 4, 1),
     ("read", 3, 1),
     ("index", 4, 1),
+    ("export", 3, 1),
+    ("import", 5, 2),
 ];
 
 /// One place in a round.
@@ -87,15 +91,16 @@ impl Generator {
                 written(b"write", &flow, &format!("\t{}", room), &bytes)
             }
             "read" => read_case(turn, dice),
-            _ => index_case(turn, dice),
+            "index" => index_case(turn, dice),
+            "export" => export_case(turn, dice),
+            _ => import_case(turn, dice),
         }
     }
 
-    /// Which turn of its sweep a slot takes in this round, if it is swept. Files and sheets
-    /// share one sweep, single fields have their own.
+    /// Which turn of its sweep a slot takes in this round, if it is swept.
     fn turn(&self, slot: usize, round: usize) -> Option<usize> {
         let own = &self.round[slot];
-        let shares = |other: &&Slot| other.is_swept && (other.kind == "field") == (own.kind == "field");
+        let shares = |other: &&Slot| other.is_swept && sweep_of(other.kind) == sweep_of(own.kind);
         let before = self.round[..slot].iter().filter(shares).count();
         let all = self.round.iter().filter(shares).count();
         // Short streams of other seeds begin elsewhere.
@@ -105,6 +110,14 @@ impl Generator {
         } else {
             None
         }
+    }
+}
+
+/// The sweep of a kind of case: files and sheets share one, single fields and texts have their own.
+fn sweep_of(kind: &str) -> &str {
+    match kind {
+        "field" | "import" => kind,
+        _ => "file",
     }
 }
 
@@ -142,6 +155,26 @@ fn index_case(turn: Option<usize>, dice: &mut Dice) -> Vec<u8> {
     };
     let room = room(heads::count(&flow, &bytes), ENTRIES_LIMIT, dice);
     written(b"index", &flow, &format!("\t{}", room), &bytes)
+}
+
+fn export_case(turn: Option<usize>, dice: &mut Dice) -> Vec<u8> {
+    let Given { flow, bytes } = match turn {
+        None => texts::file(dice),
+        _ => file(turn, 0, dice).0,
+    };
+    let room = room(made_text(&bytes).len(), LENGTH_LIMIT, dice);
+    written(b"export", &flow, &format!("\t{}", room), &bytes)
+}
+
+fn import_case(turn: Option<usize>, dice: &mut Dice) -> Vec<u8> {
+    let text = match turn {
+        Some(turn) => swept_text(turn, dice),
+        None => texts::text(dice),
+    };
+    // A text that gives no sheet has room for one of its own length, or too little.
+    let length = imported(&text).map_or(text.len(), |imported| imported.sheet.len());
+    let room = room(length, LENGTH_LIMIT, dice).to_string();
+    written(b"import", room.as_bytes(), "", &text)
 }
 
 /// A file, with the record and field that the sweep changed if it did.

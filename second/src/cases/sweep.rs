@@ -1,10 +1,11 @@
 //! Sweeps: cases that go through all there is in turn, so that a few thousand of them leave
-//! nothing out, whatever the dice say. One sweep is over every field of every flow, the other
-//! over every byte in a single field.
+//! nothing out, whatever the dice say. One sweep is over every field of every flow, the others
+//! over every byte in a single field and in a text.
 
 use super::dice::Dice;
 use super::draft::Draft;
 use super::parts::{held_type, FieldCase};
+use super::texts::Text;
 use super::values::{bad_form, bad_range, good, one_too_wide, widest};
 use crate::field::{Mark, Type};
 use crate::flows::{published, Flow, Layout};
@@ -75,4 +76,15 @@ pub fn swept_field(turn: usize, dice: &mut Dice) -> FieldCase {
     };
     bytes.insert(place, (turn % 256) as u8);
     FieldCase { form: form.spelling(), mark: "-", fixed: Vec::new(), bytes }
+}
+
+/// What stands before and behind the byte that is put into a text.
+const AROUND: [(&[u8], &[u8]); 3] = [(b"AB", b"CD"), (b"\"AB", b"CD\""), (b"\"ABCD\"", b"")];
+
+/// A good text with one byte put in: each of the 256, in a plain field, in a quoted one and behind one.
+pub fn swept_text(turn: usize, dice: &mut Dice) -> Vec<u8> {
+    let (before, behind) = AROUND[turn / 256 % AROUND.len()];
+    let mut text = Text::good(dice);
+    text.put(&[before, &[(turn % 256) as u8], behind].concat(), dice);
+    text.bytes()
 }

@@ -1,25 +1,42 @@
--- Why put_turned is right: the first i bytes are turned, and the others are as before.
+-- Why put_turned is right: the bytes from i on are left to put, turned.
 use borrow.Author.Needs.{needs}
-use Prim.Native.Nat.{ℕ, _≤_, _-_}
-use mathlib.Core.Path.{_≡_, refl, ap, _∙_}
-use mathlib.Core.List.{_++_}
+use mathlib.Core.List.{_∷_}
+use lib.ListN.{length, drop}
+use Prim.Native.Nat.{_≤_, _+_, _-_}
 use native.Mathlib.Omega.{arith}
-use lib.ListN.{length, take, drop, set}
 use denote.Ref.{now}
 use Rattle.record.specs.Records.{turned}
-use Rattle.sheet.proofs.Turning.{front-length, front-next}
+use Rattle.record.proofs.Turned.{turned-length}
+use Rattle.sheet.proofs.Puts.{Goes, goes-start, goes-as, goes-at, goes-below, goes-byte, goes-done}
+use Rattle.sheet.proofs.Turning.{turned-next, turned-end}
 use Rattle.sheet.proofs.put_turned.Statement.{statement}
 use Rattle.sheet.proofs.put_turned.Tie as tie
 
 abbrev Inv-loop : tie.InvT-loop
-Inv-loop out₀ s n from to i₀ out i = (i ≤ n) × (out ≡ turned from to (take i s) ++ drop i out₀)
+Inv-loop out₀ at s from to i₀ out i = (i ≤ length s) × Goes out₀ at (turned from to s) out (at + i) (turned from to (drop i s))
 
 abbrev μ-loop : tie.MeasureT-loop
-μ-loop out₀ s n from to i₀ out i = n - i
+μ-loop out₀ at s from to i₀ out i = length s - i
+
+-- the byte at i is the next of what is left
+next : (c : tie.After-turn Inv-loop μ-loop) →
+    let a = c .before .before .before .before .before .before .args in
+    let l = c .before .before .before .loop in
+    Goes (now (a .out)) (a .at) (turned (a .from) (a .to) (now (a .s))) (l .out) (a .at + l .i)
+    (c .turn .result ∷ turned (a .from) (a .to) (drop (l .i + 1) (now (a .s))))
+next c =
+    let a = c .before .before .before .before .before .before .args in
+    let l = c .before .before .before .loop in
+    let is = turned-next (a .from) (a .to) (now (a .s)) (l .i) (omega arith) in
+    let here = goes-as (l .inv .1) is in
+    rw (c .turn .ensures) here
 
 loop-holds : tie.Need-loop-holds Inv-loop μ-loop
-unfolding turned
-loop-holds c = (omega arith, refl)
+loop-holds c =
+    let a = c .before .before .args in
+    let s = now (a .s) in
+    let start = goes-start (now (a .out)) (a .at) (turned (a .from) (a .to) s) (omega (arith, turned-length (a .from) (a .to) s)) in
+    (omega arith, goes-at start (omega arith))
 
 shared-slice-read-turn : tie.Need-shared-slice-read-turn Inv-loop μ-loop
 shared-slice-read-turn c = omega arith
@@ -27,11 +44,11 @@ shared-slice-read-turn c = omega arith
 turn-requires : tie.Need-turn-requires Inv-loop μ-loop
 turn-requires c κs = search needs
 
+add-out : tie.Need-add-out Inv-loop μ-loop
+add-out c = omega arith
+
 slice-write-out : tie.Need-slice-write-out Inv-loop μ-loop
-slice-write-out c =
-    let a = c .before .before .before .before .before .before .args in
-    let l = c .before .before .before .loop in
-    omega (arith, ap length (l .inv .1), front-length (a .from) (a .to) (now (a .out)) (now (a .s)) (l .i) (omega arith) (omega arith))
+slice-write-out c = goes-below _ _ (next c)
 
 add-i : tie.Need-add-i Inv-loop μ-loop
 add-i c = omega arith
@@ -40,26 +57,16 @@ loop-less : tie.Need-loop-less Inv-loop μ-loop
 loop-less c = omega arith
 
 loop-again : tie.Need-loop-again Inv-loop μ-loop
-loop-again c =
-    let a = c .before .before .before .before .before .before .args in
-    let l = c .before .before .before .loop in (
-      omega arith,
-      (λ j. set (l .inv .1 j) (l .i) (c .turn .ensures j))
-          ∙ front-next (a .from) (a .to) (now (a .out)) (now (a .s)) (l .i) (omega arith) (omega arith),
-    )
+loop-again c = (omega arith, goes-at (goes-byte _ _ (next c)) (omega arith))
 
 same-length : tie.Need-same-length Inv-loop μ-loop
-same-length c =
-    let a = c .before .before .before .before .args in
-    let l = c .before .loop in
-    ap length (l .inv .1) ∙ front-length (a .from) (a .to) (now (a .out)) (now (a .s)) (l .i) (omega arith) (omega arith)
+same-length c = c .before .loop .inv .1 .long
 
 returns : tie.Need-returns Inv-loop μ-loop
 returns c =
     let a = c .before .before .before .before .args in
     let l = c .before .loop in
-    let all : l .i ≡ a .n = omega arith in
-    l .inv .1 ∙ ap (λ (i : ℕ). turned (a .from) (a .to) (take i (now (a .s))) ++ drop i (now (a .out))) all
+    goes-done (goes-as (l .inv .1) (turned-end (a .from) (a .to) (now (a .s)) (l .i) (omega arith))) .0
 
 pub put-turned-spec : {M : Type 1} → statement M
 put-turned-spec =
@@ -70,6 +77,7 @@ put-turned-spec =
     loop-holds
     shared-slice-read-turn
     turn-requires
+    add-out
     slice-write-out
     add-i
     loop-less

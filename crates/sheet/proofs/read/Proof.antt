@@ -1,5 +1,8 @@
 -- Why read is right: what stands before the last record is all records but the last, each with its line feed.
 use borrow.Author.Needs.{needs}
+use mathlib.Core.Path.{sym}
+use native.Mathlib.Omega.{arith}
+use lib.Seq.{length-take-le}
 use denote.Ref.{now}
 use Rattle.sheet.proofs.Handing.{read-refused, read-no-room, read-done}
 use Rattle.sheet.proofs.read.Statement.{statement}
@@ -27,8 +30,15 @@ returns c =
     let s = c .before .before .last-start in
     read-no-room (now (a .flow)) (now (a .file)) (now (a .out)) (g .0 .0) (s .result) (rw (g .1) at (c .before .before .before .before .before .before .judge .ensures)) (s .ensures .0) (s .ensures .1) (c .whole .ensures) (c .before .if1 .taken)
 
+slice-aggregate-put-turned : tie.Need-slice-aggregate-put-turned
+slice-aggregate-put-turned c =
+    let s = c .before .before .before .last-start in
+    sym (length-take-le (s .result) (now (c .before .before .before .before .before .before .before .before .before .before .before .args .file)) (s .ensures .0))
+
 put-turned-requires : tie.Need-put-turned-requires
-put-turned-requires c κs = search needs
+put-turned-requires c κs =
+    let s = c .before .before .before .last-start in
+    omega (arith, length-take-le (s .result) (now (c .before .before .before .before .before .before .before .before .before .before .before .args .file)) (s .ensures .0))
 
 returns-2 : tie.Need-returns-2
 returns-2 c =
@@ -41,11 +51,11 @@ same-length c = search needs
 
 returns-3 : tie.Need-returns-3
 returns-3 c =
-    let a = c .before .before .before .before .before .before .before .before .before .before .before .before .before .args in
-    let g = c .before .before .before .before .before .before .before .records .given in
-    let s = c .before .before .before .before .before .last-start in
-    read-done (now (a .flow)) (now (a .file)) (now (a .out)) (g .0 .0) (s .result) (rw (g .1) at (c .before .before .before .before .before .before .before .before .before .judge .ensures)) (s .ensures .0) (s .ensures .1)
-    (c .before .before .put-turned .last .0) (c .before .before .before .before .if1 .left) (c .before .before .put-turned .ensures)
+    let a = c .before .before .before .before .before .before .before .before .before .before .before .before .before .before .args in
+    let g = c .before .before .before .before .before .before .before .before .records .given in
+    let s = c .before .before .before .before .before .before .last-start in
+    read-done (now (a .flow)) (now (a .file)) (now (a .out)) (g .0 .0) (s .result) (rw (g .1) at (c .before .before .before .before .before .before .before .before .before .before .judge .ensures)) (s .ensures .0) (s .ensures .1)
+    (c .before .before .put-turned .last .0) (c .before .before .before .before .before .if1 .left) (c .before .before .put-turned .ensures)
 
 pub read-spec : {M : Type 1} → statement M
 read-spec =
@@ -57,6 +67,7 @@ read-spec =
     last-start-requires
     whole-requires
     returns
+    slice-aggregate-put-turned
     put-turned-requires
     returns-2
     same-length

@@ -6,23 +6,8 @@ use Rattle.rig.proofs.making.keep.Tie as tie
 enum-known-made : tie.Need-enum-known-made
 enum-known-made c = search needs
 
-part-requires : tie.Need-part-requires
-part-requires c κs = search needs
-
-store-out-requires : tie.Need-store-out-requires
-store-out-requires c κs = search needs
-
-slice-aggregate-print-numbers : tie.Need-slice-aggregate-print-numbers
-slice-aggregate-print-numbers c = search needs
-
-slice-aggregate-print-numbers-2 : tie.Need-slice-aggregate-print-numbers-2
-slice-aggregate-print-numbers-2 c = search needs
-
-print-numbers-requires : tie.Need-print-numbers-requires
-print-numbers-requires c κs = search needs
-
-well-requires : tie.Need-well-requires
-well-requires c κs = search needs
+keep-made-requires : tie.Need-keep-made-requires
+keep-made-requires c κs = search needs
 
 enum-known-made-2 : tie.Need-enum-known-made-2
 enum-known-made-2 c = search needs
@@ -41,12 +26,7 @@ keep-spec =
     tie.close
     (tie.spec
     enum-known-made
-    part-requires
-    store-out-requires
-    slice-aggregate-print-numbers
-    slice-aggregate-print-numbers-2
-    print-numbers-requires
-    well-requires
+    keep-made-requires
     enum-known-made-2
     refuse-requires
     returns

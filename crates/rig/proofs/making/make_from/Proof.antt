@@ -20,7 +20,7 @@ slice-aggregate-make-and-keep : tie.Need-slice-aggregate-make-and-keep
 slice-aggregate-make-and-keep c = search needs
 
 slice-aggregate-make-and-keep-2 : tie.Need-slice-aggregate-make-and-keep-2
-slice-aggregate-make-and-keep-2 c = filled 1048577
+slice-aggregate-make-and-keep-2 c = filled 3145728
 
 make-and-keep-requires : tie.Need-make-and-keep-requires
 make-and-keep-requires c κs = search needs

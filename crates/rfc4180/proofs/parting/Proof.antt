@@ -1,0 +1,16 @@
+-- Why parting is right: the tests of the definition in its order.
+use Rattle.number.proofs.Rules.{tests}
+use Rattle.rfc4180.proofs.parting.Statement.{statement}
+use Rattle.rfc4180.proofs.parting.Tie as tie
+
+returns : tie.Need-returns
+returns c = search tests
+
+returns-2 : tie.Need-returns-2
+returns-2 c = search tests
+
+returns-3 : tie.Need-returns-3
+returns-3 c = search tests
+
+pub parting-spec : {M : Type 1} → statement M
+parting-spec = tie.close (tie.spec returns returns-2 returns-3)

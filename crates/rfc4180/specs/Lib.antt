@@ -1,0 +1,3 @@
+pub mod Rfc
+pub mod Walk
+pub mod Skim
