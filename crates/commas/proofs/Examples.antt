@@ -7,12 +7,13 @@ use Rattle.rfc4180.specs.Walk.{nextOf}
 use Rattle.commas.specs.Stopping.{faultAt, isBreak, faultOf, stopBy, stopEnd, stopFrom, stopIn}
 use Rattle.commas.specs.declared.stop.Fault.the-variants.{Tab, Feed, Return, Foreign, Inside, Behind, Open, Nothing}
 
--- a tab, in the second line; a line feed alone; a carriage return alone, also at the end; a byte above 126
+-- a tab, in the second line; a line feed alone; a carriage return alone, also at the end; a byte above 126, and the first of them
 pub bytes-that-stop : (stopIn (bytes "a,b" ++ return ∷ feed ∷ bytes "c" ++ 0x09 ∷ []) 5 ≡ faultAt Tab 6)
     × (stopIn (bytes "a,b" ++ feed ∷ []) 0 ≡ faultAt Feed 3) × (stopIn (bytes "a" ++ return ∷ bytes "b") 0 ≡ faultAt Return 1)
     × (stopIn (bytes "a" ++ return ∷ []) 0 ≡ faultAt Return 1) × (stopIn (bytes "caf" ++ 0xC3 ∷ 0xA9 ∷ []) 0 ≡ faultAt Foreign 3)
+    × (stopIn (bytes "a" ++ 0x7F ∷ []) 0 ≡ faultAt Foreign 1)
 unfolding nextOf textdata isBreak faultOf stopBy stopEnd stopFrom stopIn
-bytes-that-stop = (refl, refl, refl, refl, refl)
+bytes-that-stop = (refl, refl, refl, refl, refl, refl)
 
 -- a quotation mark inside a field, a byte behind one that closes, and one that opens and is closed neither before the line's end nor
 -- before the text's

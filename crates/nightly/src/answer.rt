@@ -1,6 +1,4 @@
 // The answer to a case: one line. Each function gives whether all of it was written.
-use crate::header::Ask;
-use crate::header::Making;
 use crate::indexing;
 use crate::room::fill;
 use crate::room::kept;
@@ -8,6 +6,8 @@ use field::FieldAnswer;
 use field::FieldType;
 use field::Mark;
 use flow::StepAnswer;
+use headers::Ask;
+use headers::Making;
 use printing::print_follow;
 use printing::print_numbers;
 use printing::print_refusal;

@@ -1,4 +1,5 @@
 // What is wrong with a stream, and where: said on standard error.
+use headers::Fault as HeaderFault;
 use stream::tell;
 use stream::tell_number;
 use stream::tell_shown;
@@ -19,23 +20,13 @@ impl Place {
     }
 }
 
-// What is wrong with a case: it is cut short, or its header is not one of ours.
+// What is wrong with a case: it is cut short, or its header is too long or not one of ours.
 pub enum Fault {
     HeaderCut,
     FixedCut { stated: usize, came: usize },
     BodyCut { stated: usize, came: usize },
     HeaderLong,
-    CarriageReturn,
-    NoCase,
-    Words { right: usize, came: usize },
-    Record,
-    Field,
-    Type,
-    Mark,
-    Fixed,
-    Room,
-    Entries,
-    Length,
+    Header(HeaderFault),
 }
 
 // Says how many bytes of those that a header states came.
@@ -76,6 +67,26 @@ fn tell_limit(word: &[u8], limit: &[u8]) {
     tell(b", of at most ten digits");
 }
 
+// Says what is wrong with the header of a case of this name.
+fn tell_header(fault: HeaderFault, name: &[u8]) {
+    match fault {
+        HeaderFault::CarriageReturn => tell(b"the header ends in a carriage return"),
+        HeaderFault::NoCase => {
+            tell(b"there is no case ");
+            tell_name(name);
+        }
+        HeaderFault::Words { right, came } => tell_words(name, right, came),
+        HeaderFault::Record => tell_limit(b"RECORD", b"1,000,000,000"),
+        HeaderFault::Field => tell_limit(b"FIELD", b"1,000,000,000"),
+        HeaderFault::Type => tell(b"TYPE is no type in document 01's spelling"),
+        HeaderFault::Mark => tell(b"MARK is none of -, opt and ="),
+        HeaderFault::Fixed => tell_limit(b"FIXED", b"1,114,112"),
+        HeaderFault::Room => tell_limit(b"ROOM", b"1,114,112"),
+        HeaderFault::Entries => tell_limit(b"ROOM", b"8,192"),
+        HeaderFault::Length => tell_limit(b"LENGTH", b"1,114,112"),
+    }
+}
+
 // Says what is wrong with a case of this name.
 fn tell_fault(fault: Fault, name: &[u8]) {
     match fault {
@@ -83,20 +94,7 @@ fn tell_fault(fault: Fault, name: &[u8]) {
         Fault::FixedCut { stated, came } => tell_cut(b"the fixed value", stated, came),
         Fault::BodyCut { stated, came } => tell_cut(b"the body", stated, came),
         Fault::HeaderLong => tell(b"the header is longer than 65,536 bytes"),
-        Fault::CarriageReturn => tell(b"the header ends in a carriage return"),
-        Fault::NoCase => {
-            tell(b"there is no case ");
-            tell_name(name);
-        }
-        Fault::Words { right, came } => tell_words(name, right, came),
-        Fault::Record => tell_limit(b"RECORD", b"1,000,000,000"),
-        Fault::Field => tell_limit(b"FIELD", b"1,000,000,000"),
-        Fault::Type => tell(b"TYPE is no type in document 01's spelling"),
-        Fault::Mark => tell(b"MARK is none of -, opt and ="),
-        Fault::Fixed => tell_limit(b"FIXED", b"1,114,112"),
-        Fault::Room => tell_limit(b"ROOM", b"1,114,112"),
-        Fault::Entries => tell_limit(b"ROOM", b"8,192"),
-        Fault::Length => tell_limit(b"LENGTH", b"1,114,112"),
+        Fault::Header(wrong) => tell_header(wrong, name),
     }
 }
 

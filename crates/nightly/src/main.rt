@@ -1,14 +1,13 @@
 // Many cases in one stream. A case is a header line and a body; each is answered by one line.
 mod answer;
 mod broken;
-mod header;
 mod indexing;
 mod room;
 
 use broken::Fault;
 use broken::Place;
-use header::Case;
-use header::Header;
+use headers::Case;
+use headers::Header;
 use stream::Ending;
 use stream::Reading;
 use stream::Unread;
@@ -73,7 +72,7 @@ fn answer_case(case: Case, n: usize, s: &[u8], room: &mut [u8]) -> First
     }
     let end = middle + case.length;
     let ask = case.ask;
-    let flow = header::word(&s[0..n], 2);
+    let flow = headers::word(&s[0..n], 2);
     if answer::answer(ask, flow, &s[start..middle], &s[middle..end], room) {
         return First::Took(end);
     }
@@ -88,9 +87,9 @@ fn answer_first(s: &[u8], room: &mut [u8]) -> First
     if n == s.len() {
         return First::Short(Fault::HeaderCut);
     }
-    match header::read(&s[0..n]) {
+    match headers::read(&s[0..n]) {
         Header::Of(case) => answer_case(case, n, s, room),
-        Header::Bad(fault) => First::Bad(fault),
+        Header::Bad(fault) => First::Bad(Fault::Header(fault)),
     }
 }
 
@@ -99,7 +98,7 @@ fn answer_first(s: &[u8], room: &mut [u8]) -> First
 fn end_broken(place: Place, fault: Fault, s: &[u8]) -> Ending {
     stream::print(b"bad header\n");
     let n = line_length(s);
-    broken::tell_broken(place, fault, header::word(&s[0..n], 1));
+    broken::tell_broken(place, fault, headers::word(&s[0..n], 1));
     Ending::Hindered
 }
 

@@ -1,32 +1,7 @@
 // The calendar in words: the rule of months and leap years, and why the digits of a date name no day.
+use findings::Missing;
 use stream::print;
 use words::Number;
-ghost use mathlib.Core.Path.{_≡_};
-ghost use Rattle.sentences.specs.Dates.{missingIn};
-
-// The part of a date that the calendar does not have.
-enum Missing {
-    Year,
-    Month,
-    Day,
-    Nothing,
-}
-
-// The first part of YYYYMMDD, as one number, that the calendar does not have.
-fn missing_in(v: u64) -> Missing
-    ensures { λ r. ⌜ r ≡ missingIn v ⌝ }
-{
-    if !number::is_day(v / 10000, 1, 1) {
-        return Missing::Year;
-    }
-    if !number::is_day(v / 10000, v / 100 % 100, 1) {
-        return Missing::Month;
-    }
-    if !number::is_date(v) {
-        return Missing::Day;
-    }
-    Missing::Nothing
-}
 
 // The name of a month.
 fn say_month(m: u64) -> bool {
@@ -66,7 +41,7 @@ fn say_length(y: u64, m: u64, digits: &[u8]) -> bool {
 
 // What the calendar does not have of a date, by its digits and the number that they spell.
 fn say_missing(date: &[u8], v: u64) -> bool {
-    match missing_in(v) {
+    match findings::missing_in(v) {
         Missing::Year => print(b"; there is no year ") && print(text::part(date, 0, 4)),
         Missing::Month => print(b"; there is no month ") && print(text::part(date, 4, 2)),
         Missing::Day => {

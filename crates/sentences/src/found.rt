@@ -3,23 +3,14 @@
 use crate::form;
 use crate::heading;
 use crate::kinds;
-use crate::kinds::kind_at;
 use crate::refusals;
 use crate::say;
 use judge::Verdict;
 use place::Refusal;
 use record::BAR;
-use record::Cursor;
 use record::FEED;
-use record::Step;
 use record::TAB;
 use stream::print;
-ghost use mathlib.Core.Path.{_≡_};
-ghost use Prim.Native.Nat.{ℕ};
-ghost use mathlib.Core.List.{List};
-ghost use Rattle.record.specs.Records.{field};
-ghost use Rattle.layout.specs.Numbers.{layoutOf};
-ghost use Rattle.sentences.specs.Footer.{footerLine};
 
 // The set of all kinds.
 const ALL: usize = 0xFFFFFFFF;
@@ -29,7 +20,7 @@ fn say_followers(t: &[u32], sep: u8, file: &[u8], n: usize) -> bool {
     if n == 0 {
         return true;
     }
-    kinds::say_followers(t, kind_at(t, sep, file, n - 1))
+    kinds::say_followers(t, findings::kind_at(t, sep, file, n - 1))
 }
 
 // What the field of a refusal should be, by its kind and what was found in it.
@@ -61,45 +52,12 @@ fn say_field_count(t: &[u32], sep: u8, kind: usize, r: &[u8]) -> bool {
         && say::number(right)
 }
 
-// The last record of a kind before record n; no bytes where there is none.
-fn last_of_kind<'a>(t: &[u32], sep: u8, file: &'a [u8], kind: usize, n: usize) -> &'a [u8] {
-    let mut c = Cursor { at: 0 };
-    let mut left = n;
-    let mut from = 0;
-    let mut to = 0;
-    while 1 < left {
-        match c.step(file) {
-            Step::Done => {
-                return text::part(file, 0, 0);
-            }
-            Step::Record { start, end, next } => {
-                if fault::kind_of(t, sep, text::part(text::part(file, 0, end), start, end))
-                    == kind
-                {
-                    from = start;
-                    to = end;
-                }
-                left -= 1;
-                c = next;
-            }
-        }
-    }
-    text::part(text::part(file, 0, to), from, to)
-}
-
 // The key before that of the refused record, and whether it may come again.
 fn say_key_before(t: &[u32], sep: u8, file: &[u8], kind: usize, r: Refusal) -> bool {
-    let last = last_of_kind(t, sep, file, kind, r.record);
+    let last = findings::last_of_kind(t, sep, kind, file, r.record);
     print(b"; the key before is ")
         && say::quoted(words::part(sep, last, r.field))
         && (!layout::may_repeat(t, kind) || print(b", which may come again"))
-}
-
-// The bytes of the field that a refusal names.
-fn found_in<'a>(sep: u8, file: &'a [u8], r: Refusal) -> &'a [u8]
-    ensures { λ s. ⌜ now s ≡ field sep (r .field) (field 10 (r .record) (now (file .entry))) ⌝ }
-{
-    words::part(sep, words::part(FEED, file, r.record), r.field)
 }
 
 // What stands where the refusal is. The footer that the writer adds to a sheet has the sheet's end as its place.
@@ -107,7 +65,7 @@ fn say_found(sep: u8, file: &[u8], r: Refusal) -> bool {
     if sep == TAB && r.place == file.len() {
         return print(b"; found the footer that the writer adds");
     }
-    say::found_field(found_in(sep, file, r))
+    say::found_field(findings::field_refused(sep, file, r))
 }
 
 // The count or checksum that would be right. A sheet has no footer of its own.
@@ -151,7 +109,7 @@ fn say_shape(t: &[u32], sep: u8, file: &[u8], r: Refusal) -> bool {
 
 // The same for a refusal of a field.
 fn say_field(t: &[u32], fixed: &[u8], sep: u8, file: &[u8], r: Refusal) -> bool {
-    let kind = kind_at(t, sep, file, r.record);
+    let kind = findings::kind_at(t, sep, file, r.record);
     if !say_found(sep, file, r) {
         return false;
     }
@@ -159,7 +117,7 @@ fn say_field(t: &[u32], fixed: &[u8], sep: u8, file: &[u8], r: Refusal) -> bool 
     match number {
         11 => say_key_before(t, sep, file, kind, r),
         12 | 13 => say_right(sep, file, r),
-        _ => say_rule(t, fixed, kind, found_in(sep, file, r), r),
+        _ => say_rule(t, fixed, kind, findings::field_refused(sep, file, r), r),
     }
 }
 
@@ -174,13 +132,6 @@ fn say_details(t: &[u32], fixed: &[u8], sep: u8, file: &[u8], r: Refusal) -> boo
         16 => say::found(words::part(FEED, file, r.record)),
         _ => true,
     }
-}
-
-// Line n of a sheet is a ZPT line.
-fn is_footer_line(t: &[u32], sep: u8, file: &[u8], n: usize) -> bool
-    ensures { λ r. ⌜ ((fixed : List ℕ) → r ≡ footerLine sep (layoutOf (now (t .entry)) fixed) (now (file .entry)) n) ⌝ }
-{
-    layout::is_footer(t, kind_at(t, sep, file, n))
 }
 
 // That line n of a sheet is a ZPT line, as the cause of a refusal.
@@ -200,13 +151,13 @@ fn say_footer_line(t: &[u32], sep: u8, sheet: &[u8], r: Refusal) -> bool {
     if n < 1 {
         return true;
     }
-    if is_footer_line(t, TAB, sheet, n) {
+    if findings::is_footer_line(t, TAB, sheet, n) {
         return say_cause(n);
     }
-    if r.number == 16 && is_footer_line(t, BAR, sheet, n) {
+    if r.number == 16 && findings::is_footer_line(t, BAR, sheet, n) {
         return say_cause(n);
     }
-    if is_footer_line(t, TAB, sheet, n - 1) {
+    if findings::is_footer_line(t, TAB, sheet, n - 1) {
         return say_cause(n - 1);
     }
     true

@@ -1,5 +1,4 @@
 // How a sentence begins: the record and the field of a refusal.
-use crate::kinds;
 use crate::say;
 use place::Refusal;
 use record::TAB;
@@ -15,7 +14,7 @@ fn say_line(sep: u8, n: usize) -> bool {
 
 // `, TA2`: a record's kind, where the flow has it.
 pub fn say_kind(t: &[u32], sep: u8, file: &[u8], n: usize) -> bool {
-    let kind = kinds::kind_at(t, sep, file, n);
+    let kind = findings::kind_at(t, sep, file, n);
     if kind == 0 {
         return true;
     }

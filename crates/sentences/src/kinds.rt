@@ -1,19 +1,5 @@
 // The kinds of a flow, and which may stand where.
-use record::FEED;
 use stream::print;
-ghost use mathlib.Core.Path.{_≡_};
-ghost use Prim.Native.Nat.{ℕ};
-ghost use mathlib.Core.List.{List};
-ghost use Rattle.record.specs.Records.{field};
-ghost use Rattle.layout.specs.Numbers.{layoutOf};
-ghost use Rattle.fault.specs.Record.{kindOf};
-
-// The kind of line n of a file or a sheet; 0, the start, where there is no such line or kind.
-pub fn kind_at(t: &[u32], sep: u8, file: &[u8], n: usize) -> usize
-    ensures { λ k. ⌜ ((fixed : List ℕ) → k ≡ kindOf sep (layoutOf (now (t .entry)) fixed) (field 10 n (now (file .entry)))) ⌝ }
-{
-    fault::kind_of(t, sep, words::part(FEED, file, n))
-}
 
 // The names of the kinds in a set of them.
 pub fn say_kinds(t: &[u32], set: usize) -> bool {

@@ -1,7 +1,5 @@
 // Numbers and bytes on standard output. Each of these says whether all of it was written.
 use stream::print;
-ghost use mathlib.Core.Path.{_≡_};
-ghost use Rattle.sentences.specs.Found.{endsInReturn};
 
 const RETURN: u8 = 0x0D;
 
@@ -41,19 +39,9 @@ pub fn found(s: &[u8]) -> bool {
     print(b"; found ") && quoted(s)
 }
 
-// The bytes end in a carriage return.
-fn ends_in_return(s: &[u8]) -> bool
-    ensures { λ r. ⌜ r ≡ endsInReturn (now (s .entry)) ⌝ }
-{
-    if s.len() == 0 {
-        return false;
-    }
-    s[s.len() - 1] == RETURN
-}
-
 // Where bytes end in a carriage return, that is said.
 pub fn say_return(s: &[u8]) -> bool {
-    if ends_in_return(s) {
+    if words::ends_in(RETURN, s) {
         return print(b"; it ends in a carriage return: lines end in a line feed alone");
     }
     true

@@ -34,7 +34,7 @@ pub fn complain(program: &[u8], why: &[u8]) {
 // it as 16,384 bytes hold: each of the 4,095 bytes that a path may have takes at most four.
 pub fn complain_of(program: &[u8], what: &[u8], path: &[u8]) {
     let mut name = [0u8; 16384];
-    let n = words::show(path, &mut name);
+    let n = legible::show(path, &mut name);
     let mut line = [0u8; 16640];
     let at = put(&mut line, 0, program);
     let at = put(&mut line, at, b": can't ");

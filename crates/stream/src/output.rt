@@ -26,7 +26,7 @@ pub fn print_number(n: u64) -> bool {
 // Writes at most 1,024 bytes as people can read them: each takes at most four.
 fn write_part_shown(fd: i32, part: &[u8]) -> bool {
     let mut line = [0u8; 4096];
-    let n = words::show(part, &mut line);
+    let n = legible::show(part, &mut line);
     write_whole(fd, &line[..n])
 }
 

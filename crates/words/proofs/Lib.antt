@@ -1,5 +1,3 @@
 pub mod Digits
-pub mod Ends
-pub mod Showing
-pub mod OneShown
+pub mod Insides
 pub mod Examples

@@ -29,13 +29,13 @@ numberOf most limit s = cond (isNumber most limit s) (numbers.Is (number s)) num
 abbrev pub widthOf : List ℕ → Number
 widthOf s = numberOf 9 999999999 s
 
--- the last byte is the closing bracket
-unfoldable pub closed : List ℕ → Bool
-closed s = eqb (getD s (length s - 1) 0) 0x29
+-- there is a last byte, and it is b
+unfoldable pub endsIn : ℕ → List ℕ → Bool
+endsIn b s = not (eqb (length s) 0) && eqb (getD s (length s - 1) 0) b
 
 -- a word that begins with a name and its opening bracket, and ends with the closing one
 unfoldable pub bracketed : List ℕ → List ℕ → Bool
-bracketed name s = closed s && sameBytes (take (length name) s) name
+bracketed name s = endsIn 0x29 s && sameBytes (take (length name) s) name
 
 -- what stands between the two brackets
 abbrev pub inside : List ℕ → List ℕ → List ℕ

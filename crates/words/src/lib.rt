@@ -1,10 +1,6 @@
-// The words that people write: one of several, a number, a type in document 01's spelling, a mark. And
-// bytes as people can read them.
-mod legible;
-
+// The words that people write: one of several, a number, a type in document 01's spelling, a mark.
 use field::FieldType;
 use field::Mark;
-pub use legible::show;
 use record::Found;
 use text::same_bytes;
 ghost use mathlib.Core.Path.{_≡_};
@@ -12,7 +8,7 @@ ghost use Prim.Native.Nat.{_+_, _*_};
 ghost use lib.Dec.{leb};
 ghost use Rattle.text.specs.Characters.{isDigit};
 ghost use Rattle.record.specs.Records.{field};
-ghost use Rattle.words.specs.Spelling.{numberOf, widthOf, asText, asInt, decOf, closed, bracketed, inside as insideOf, wideOf, formOf, markOf};
+ghost use Rattle.words.specs.Spelling.{numberOf, widthOf, asText, asInt, decOf, endsIn, bracketed, inside as insideOf, wideOf, formOf, markOf};
 
 // What a word says: a number, a type or a mark; or it is none.
 pub enum Number {
@@ -136,21 +132,21 @@ fn read_int(width: &[u8]) -> Form
     }
 }
 
-// The last byte is the closing bracket.
-fn closes(s: &[u8]) -> bool
-    ensures { λ r. ⌜ r ≡ closed (now (s .entry)) ⌝ }
+// There is a last byte, and it is b.
+pub fn ends_in(b: u8, s: &[u8]) -> bool
+    ensures { λ r. ⌜ r ≡ endsIn b (now (s .entry)) ⌝ }
 {
     if s.len() == 0 {
         return false;
     }
-    s[s.len() - 1] == b')'
+    s[s.len() - 1] == b
 }
 
 // A name and its opening bracket at the front, the closing bracket at the end.
 fn is_bracketed(name: &[u8], s: &[u8]) -> bool
     ensures { λ r. ⌜ r ≡ bracketed (now (name .entry)) (now (s .entry)) ⌝ }
 {
-    if !closes(s) {
+    if !ends_in(b')', s) {
         return false;
     }
     same_bytes(text::part(s, 0, name.len()), name)

@@ -5,10 +5,9 @@ use mathlib.Core.Path.{_≡_, ap}
 use native.Mathlib.Omega.{arith}
 use lib.ListN.{length}
 use denote.Ref.{now}
-use Rattle.record.specs.Records.{fields, fieldsFrom}
+use Rattle.record.specs.Records.{fields, fieldsFrom, bar}
 use Rattle.record.specs.Step.{IsField}
 use Rattle.record.proofs.Fields.{from-start}
-use Rattle.record.specs.Records.{bar}
 use Rattle.csv.specs.Export.{lineOf}
 use Rattle.csv.proofs.Lines.{onward, size-last, size-more, size-least}
 use Rattle.csv.proofs.fields_size.Statement.{statement}

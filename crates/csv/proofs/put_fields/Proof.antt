@@ -6,10 +6,9 @@ use mathlib.Core.List.{_∷_}
 use native.Mathlib.Omega.{arith}
 use lib.ListN.{length, take, drop}
 use denote.Ref.{now}
-use Rattle.record.specs.Records.{fields, fieldsFrom}
+use Rattle.record.specs.Records.{fields, fieldsFrom, bar}
 use Rattle.record.specs.Step.{IsField}
 use Rattle.record.proofs.Fields.{from-start}
-use Rattle.record.specs.Records.{bar}
 use Rattle.rfc4180.specs.Rfc.{comma}
 use Rattle.csv.specs.Export.{fieldOf, lineOf}
 use Rattle.csv.proofs.Lines.{onward, at-last, at-more, size-least}

@@ -5,9 +5,8 @@ use mathlib.Core.List.{_∷_}
 use native.Mathlib.Omega.{arith}
 use lib.ListN.{length, take, drop}
 use denote.Ref.{now}
-use Rattle.record.specs.Records.{fields}
+use Rattle.record.specs.Records.{fields, bar}
 use Rattle.record.specs.Step.{IsRecord}
-use Rattle.record.specs.Records.{bar}
 use Rattle.rfc4180.specs.Rfc.{return, feed}
 use Rattle.csv.specs.Export.{lineOf}
 use Rattle.csv.proofs.Lines.{textFrom, at-record, at-end, size-record}

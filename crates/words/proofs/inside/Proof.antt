@@ -1,6 +1,6 @@
 -- A word no longer than the name has nothing inside. Assumes nothing.
 use mathlib.Core.Path.{_∙_}
-use Rattle.words.proofs.Ends.{nothing-inside}
+use Rattle.words.proofs.Insides.{nothing-inside}
 use borrow.Author.Needs.{needs}
 use Rattle.words.proofs.inside.Statement.{statement}
 use Rattle.words.proofs.inside.Tie as tie

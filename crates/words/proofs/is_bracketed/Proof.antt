@@ -9,12 +9,12 @@ use borrow.Author.Needs.{needs}
 use Rattle.words.proofs.is_bracketed.Statement.{statement}
 use Rattle.words.proofs.is_bracketed.Tie as tie
 
-closes-requires : tie.Need-closes-requires
-closes-requires c κs = search needs
+ends-in-requires : tie.Need-ends-in-requires
+ends-in-requires c κs = search needs
 
 returns : tie.Need-returns
 unfolding bracketed
-returns c = rw (sym (c .before .closes .ensures) ∙ not-true _ (c .if1 .taken))
+returns c = rw (sym (c .before .ends-in .ensures) ∙ not-true _ (c .if1 .taken))
 
 part-requires : tie.Need-part-requires
 part-requires c κs = search needs
@@ -26,10 +26,10 @@ returns-2 : tie.Need-returns-2
 unfolding bracketed
 returns-2 c =
     let name = c .before .before .before .before .before .before .args .name .now in
-    let closes = c .before .before .before in
-    rw (sym (closes .closes .ensures) ∙ not-false _ (c .before .before .if1 .left))
+    let ends = c .before .before .before in
+    rw (sym (ends .ends-in .ensures) ∙ not-false _ (c .before .before .if1 .left))
     (c .same-bytes .ensures ∙ ap (λ (w : List ℕ). sameBytes w name) (c .before .part .ensures))
 
 pub is-bracketed-spec : {M : Type 1} → statement M
 is-bracketed-spec =
-    tie.close (tie.spec closes-requires returns part-requires same-bytes-requires returns-2)
+    tie.close (tie.spec ends-in-requires returns part-requires same-bytes-requires returns-2)

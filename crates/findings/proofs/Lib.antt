@@ -1,0 +1,3 @@
+pub mod KeyBefore
+pub mod NoDay
+pub mod Passing

@@ -1,0 +1,100 @@
+// What a sentence on a refusal names, found in the bytes that are refused. In a file bars part the fields, in a sheet tabs.
+use place::Refusal;
+use record::Cursor;
+use record::FEED;
+use record::Step;
+ghost use mathlib.Core.Path.{_≡_};
+ghost use Prim.Native.Nat.{ℕ};
+ghost use mathlib.Core.List.{List};
+ghost use Rattle.record.specs.Records.{field};
+ghost use Rattle.layout.specs.Numbers.{layoutOf};
+ghost use Rattle.fault.specs.Record.{kindOf};
+ghost use Rattle.findings.specs.Dates.{missingIn};
+ghost use Rattle.findings.specs.Lines.{footerLine, spanned, withOne, lastOfKind, recordsBefore};
+
+// The part of a date that the calendar does not have.
+pub enum Missing {
+    Year,
+    Month,
+    Day,
+    Nothing,
+}
+
+// The first part of YYYYMMDD, as one number, that the calendar does not have.
+pub fn missing_in(v: u64) -> Missing
+    ensures { λ r. ⌜ r ≡ missingIn v ⌝ }
+{
+    if !number::is_day(v / 10000, 1, 1) {
+        return Missing::Year;
+    }
+    if !number::is_day(v / 10000, v / 100 % 100, 1) {
+        return Missing::Month;
+    }
+    if !number::is_date(v) {
+        return Missing::Day;
+    }
+    Missing::Nothing
+}
+
+// The bytes of the field that a refusal names.
+pub fn field_refused<'a>(sep: u8, file: &'a [u8], r: Refusal) -> &'a [u8]
+    ensures { λ s. ⌜ now s ≡ field sep (r .field) (field 10 (r .record) (now (file .entry))) ⌝ }
+{
+    words::part(sep, words::part(FEED, file, r.record), r.field)
+}
+
+// The kind of line n of a file or a sheet; 0, the start, where there is no such line or kind.
+pub fn kind_at(t: &[u32], sep: u8, file: &[u8], n: usize) -> usize
+    ensures { λ k. ⌜ ((fixed : List ℕ) → k ≡ kindOf sep (layoutOf (now (t .entry)) fixed) (field 10 n (now (file .entry)))) ⌝ }
+{
+    fault::kind_of(t, sep, words::part(FEED, file, n))
+}
+
+// Line n of a sheet is a ZPT line.
+pub fn is_footer_line(t: &[u32], sep: u8, sheet: &[u8], n: usize) -> bool
+    ensures { λ r. ⌜ ((fixed : List ℕ) → r ≡ footerLine sep (layoutOf (now (t .entry)) fixed) (now (sheet .entry)) n) ⌝ }
+{
+    layout::is_footer(t, kind_at(t, sep, sheet, n))
+}
+
+// Where some bytes of a file stand, and how many there are.
+pub struct Span {
+    from: usize,
+    len: usize,
+}
+
+// The span of a record that is of the kind, and else that of the last one before it that was.
+fn with_one(t: &[u32], sep: u8, kind: usize, file: &[u8], last: Span, r: Span) -> Span
+    ensures { λ s. ⌜ ((fixed : List ℕ) → spanned (now (file .entry)) s ≡ withOne sep (layoutOf (now (t .entry)) fixed) kind (spanned (now (file .entry)) last) (spanned (now (file .entry)) r)) ⌝ }
+{
+    if fault::kind_of(t, sep, text::part(file, r.from, r.len)) == kind {
+        return r;
+    }
+    last
+}
+
+// The last record of a kind before record n; no bytes where there is none.
+pub fn last_of_kind<'a>(t: &[u32], sep: u8, kind: usize, file: &'a [u8], n: usize) -> &'a [u8]
+    ensures { λ s. ⌜ ((fixed : List ℕ) → now s ≡ lastOfKind sep (layoutOf (now (t .entry)) fixed) kind (recordsBefore (now (file .entry)) n)) ⌝ }
+{
+    let mut c = Cursor { at: 0 };
+    let mut left = n;
+    let mut last = Span { from: 0, len: 0 };
+    while 1 < left {
+        match c.step(file) {
+            Step::Done => {
+                return text::part(file, last.from, last.len);
+            }
+            Step::Record { start, end, next } => {
+                let r = Span {
+                    from: start,
+                    len: end - start,
+                };
+                last = with_one(t, sep, kind, file, last, r);
+                left -= 1;
+                c = next;
+            }
+        }
+    }
+    text::part(file, last.from, last.len)
+}

@@ -1,0 +1,23 @@
+-- A digit, or a letter. Assumes nothing.
+use Rattle.number.proofs.Rules.{tests}
+use Rattle.legible.specs.Shown.{hexDigit}
+use borrow.Author.Needs.{needs}
+use Rattle.legible.proofs.hex_digit.Statement.{statement}
+use Rattle.legible.proofs.hex_digit.Tie as tie
+
+add-result : tie.Need-add-result
+add-result c = search needs
+
+returns : tie.Need-returns
+unfolding hexDigit
+returns c = search tests
+
+add-result-2 : tie.Need-add-result-2
+add-result-2 c = search needs
+
+returns-2 : tie.Need-returns-2
+unfolding hexDigit
+returns-2 c = search tests
+
+pub hex-digit-spec : {M : Type 1} → statement M
+hex-digit-spec = tie.close (tie.spec add-result returns add-result-2 returns-2)
