@@ -3,6 +3,8 @@ use headers::Fault as HeaderFault;
 use stream::tell;
 use stream::tell_number;
 use stream::tell_shown;
+ghost use mathlib.Core.Path.{_≡_};
+ghost use Prim.Native.Nat.{_+_, _%_, _^_};
 
 // Which case it is, counted from 1, and the byte of the stream where its header starts, counted from 0.
 pub struct Place {
@@ -12,7 +14,9 @@ pub struct Place {
 
 impl Place {
     // The place of the case behind one of so many bytes. No stream is so long that the numbers come round.
-    pub fn past(self, bytes: usize) -> Place {
+    pub fn past(self, bytes: usize) -> Place
+        ensures { λ r. ⌜ (r .case ≡ (self .case + 1) % 2 ^ 64) × (r .at ≡ (self .at + bytes) % 2 ^ 64) ⌝ }
+    {
         Place {
             case: std::num::wrapping_add_u64(self.case, 1),
             at: std::num::wrapping_add_u64(self.at, bytes as u64),
