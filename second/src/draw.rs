@@ -1,8 +1,9 @@
 //! A flow's grammar drawn as nested sets: an SVG picture.
 
 use crate::field::Mark;
-use crate::flows::{Flow, Layout, Rule};
+use crate::flows::{named, Flow, Layout, Rule};
 use crate::grammar::{Kind, Set};
+use crate::refusal::Refusal;
 use std::fmt::Write;
 use std::sync::Arc;
 
@@ -11,23 +12,24 @@ const STEP: usize = 16;
 const ROW: usize = 30;
 const CAPTION: usize = 22;
 
-/// The picture of a flow: a bar a kind, and a frame around what may be repeated or chosen.
-pub fn picture(flow: &Flow) -> String {
+/// The picture of the flow that words ask for, with the words as its title: a bar a kind, and a frame
+/// around what may be repeated or chosen.
+pub fn picture(words: &str) -> Result<String, Refusal> {
+    let flow = named(words.as_bytes())?;
     let mut pen = Pen { flow, shapes: String::new(), y: 40 };
     pen.set(&flow.grammar, 1);
     let feed = if flow.needs_last_line_feed { "needed" } else { "may be absent" };
     let (height, foot) = (pen.y + 34, pen.y + 18);
-    format!(
+    Ok(format!(
         "<svg xmlns=\"http://www.w3.org/2000/svg\" width=\"{w}\" height=\"{height}\" viewBox=\"0 0 {w} {height}\" \
          font-family=\"DejaVu Sans Mono, monospace\" font-size=\"12\">\n\
-         <title>{name} as nested sets</title>\n\
+         <title>{words} as nested sets</title>\n\
          <rect width=\"{w}\" height=\"{height}\" fill=\"white\"/>\n\
-         <text x=\"{STEP}\" y=\"26\" font-size=\"16\" font-weight=\"bold\">{name}</text>\n\
+         <text x=\"{STEP}\" y=\"26\" font-size=\"16\" font-weight=\"bold\">{words}</text>\n\
          {shapes}<text x=\"{STEP}\" y=\"{foot}\" fill=\"#555\">last line feed: {feed}</text>\n</svg>\n",
         w = WIDTH,
-        name = flow.name,
         shapes = pen.shapes,
-    )
+    ))
 }
 
 /// What is drawn so far, and how far down it reaches.

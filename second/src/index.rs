@@ -30,8 +30,7 @@ pub struct Indexed {
 /// Fills the list from an accepted file. A refusal leaves the list as it was.
 pub fn index(flow: &[u8], file: &[u8], list: &mut [Entry]) -> Result<Indexed, Refusal> {
     let records = judge(flow, file)?;
-    let grammar = &named(flow).expect("no file is accepted for a flow that there is not").grammar;
-    let entries = entries_of(grammar, file);
+    let entries = entries_of(&named(flow)?.grammar, file);
     let part = list.get_mut(..entries.len()).ok_or_else(|| Refusal::whole(19))?;
     part.copy_from_slice(&entries);
     Ok(Indexed { records, entries: entries.len() })

@@ -14,9 +14,10 @@ pub const RECORD_LIMIT: usize = 512;
 /// What is wrong with one record: number and field.
 type Fault = (u8, usize);
 
-/// The number of records of an accepted file, or the first refusal in document 01's order.
+/// The number of records of an accepted file, or the first refusal in document 01's order. Here and
+/// in every other part the flow is given by its words: a name, or a name, a space and an edition.
 pub fn judge(flow: &[u8], file: &[u8]) -> Result<usize, Refusal> {
-    let flow = named(flow).ok_or_else(|| Refusal::whole(1))?;
+    let flow = named(flow)?;
     if file.len() > FILE_LIMIT {
         return Err(Refusal::whole(2));
     }
@@ -47,7 +48,7 @@ fn part_named(record: &[u8], field: usize) -> &[u8] {
 /// The value of a field: the file's own refusals first, then 18 with the numbers as asked.
 pub fn value<'a>(flow: &[u8], file: &'a [u8], record: usize, field: usize) -> Result<Value<'a>, Refusal> {
     judge(flow, file)?;
-    let found = find_field(flow, file, record, field);
+    let found = find_field(named(flow)?, file, record, field);
     found.ok_or_else(|| Refusal::at(18, record, field, place_of_missing(file, record)))
 }
 
@@ -61,13 +62,13 @@ fn place_of_missing(file: &[u8], record: usize) -> usize {
 }
 
 /// A field of an accepted file, by record and field; None where there is none.
-fn find_field<'a>(flow: &[u8], file: &'a [u8], record: usize, field: usize) -> Option<Value<'a>> {
+fn find_field<'a>(flow: &Flow, file: &'a [u8], record: usize, field: usize) -> Option<Value<'a>> {
     let fields = fields_of(records_of(file).get(record.checked_sub(1)?)?);
     let bytes = *fields.get(field.checked_sub(1)?)?;
     if field == 1 {
         return Some(Value::Text(bytes));
     }
-    let rule = &named(flow)?.layout(fields[0])?.rules[field - 2];
+    let rule = &flow.layout(fields[0])?.rules[field - 2];
     judge_field(rule.form, &rule.mark, bytes).ok()
 }
 

@@ -5,7 +5,7 @@ use second::cases::Generator;
 use second::census::census;
 use second::compare::compare;
 use second::draw::picture;
-use second::flows::named;
+use second::refusal::Refusal;
 use second::stream::cases_of;
 use std::fs;
 use std::io::{self, BufWriter, Read, Write};
@@ -17,6 +17,7 @@ const USAGE: &str = "usage:
   second census < STREAM
   second compare STREAM ANSWERS [CASE-FILE]
   second draw FLOW > PICTURE.svg
+FLOW is a flow's name, or 'NAME EDITION'.
 KINDS is a comma list of judge, value, field, sum, step, write, read, index, export, import.";
 
 /// What a command comes to: all is well, or something was found, or it could not run.
@@ -118,11 +119,12 @@ fn compare_files(stream: &str, answers: &str, kept: &str) -> io::Result<End> {
 }
 
 fn draw(flow: &str) -> io::Result<End> {
-    match named(flow.as_bytes()) {
-        Some(flow) => {
-            io::stdout().lock().write_all(picture(flow).as_bytes())?;
+    match picture(flow) {
+        Ok(picture) => {
+            io::stdout().lock().write_all(picture.as_bytes())?;
             Ok(End::Well)
         }
-        None => Ok(End::Wrong(format!("no such flow: {}", flow))),
+        Err(Refusal { number: 21, .. }) => Ok(End::Wrong(format!("no such edition: {}", flow))),
+        Err(_) => Ok(End::Wrong(format!("no such flow: {}", flow))),
     }
 }

@@ -16,9 +16,7 @@ pub struct Done {
 
 /// Writes the file of a sheet into the room. A refusal leaves the room as it was.
 pub fn write(flow: &[u8], sheet: &[u8], room: &mut [u8]) -> Result<Done, Refusal> {
-    if named(flow).is_none() {
-        return Err(Refusal::whole(1));
-    }
+    named(flow)?;
     if sheet.len() > SHEET_LIMIT {
         return Err(Refusal::whole(2));
     }

@@ -15,7 +15,7 @@ pub enum Step {
 /// Kinds are three bytes each, end to end. One cut short, or foreign, is no kind of the
 /// flow, so nothing is left behind it.
 pub fn step(flow: &[u8], kinds: &[u8]) -> Result<Step, Refusal> {
-    let flow = named(flow).ok_or_else(|| Refusal::whole(1))?;
+    let flow = named(flow)?;
     let mut left = flow.grammar.clone();
     for (place, kind) in kinds.chunks(3).enumerate() {
         left = match left.after(kind) {

@@ -14,7 +14,7 @@ pub const ENTRIES_LIMIT: usize = 8192;
 pub const CASE_KINDS: [&str; 10] =
     ["judge", "value", "field", "sum", "step", "write", "read", "index", "export", "import"];
 
-/// What a case asks, with its body's bytes.
+/// What a case asks, with its body's bytes. A flow is given by its words, whatever these are.
 #[derive(Debug)]
 pub enum Ask<'a> {
     Judge { flow: &'a [u8], file: &'a [u8] },

@@ -86,7 +86,7 @@ fn of_export(file: &[u8], text: &[u8], room: usize, number: u8) -> Vec<Clause> {
 
 #[test]
 fn seeded_files_to_export_reach_everything() {
-    let stream = Generator::new(15, "export").expect("this kind of case exists").stream(1500);
+    let stream = Generator::new(15, "export").expect("this kind of case exists").stream(2000);
     let mut reached = Reached::new();
     for case in cases_of(&stream) {
         let (flow, room, file) = match case.expect("a good header").ask {
@@ -98,11 +98,11 @@ fn seeded_files_to_export_reach_everything() {
         note(&mut reached, &of_export(file, &text, room, number));
         *reached.entry(format!("number {}", number)).or_default() += 1;
         if number == 0 && text.contains(&b'"') {
-            *reached.entry(format!("{} with quotes", String::from_utf8_lossy(flow))).or_default() += 1;
+            *reached.entry(format!("{} with quotes", String::from_utf8_lossy(&flow[..8]))).or_default() += 1;
         }
     }
     expect(&reached, names(&of_export(b"", b"", 0, 0)));
-    expect(&reached, (0..=15).chain([17]).map(|number| format!("number {}", number)));
+    expect(&reached, (0..=15).chain([17, 21]).map(|number| format!("number {}", number)));
     expect(&reached, FLOWS.map(|flow| format!("{} with quotes", flow)));
 }
 

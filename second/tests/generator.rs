@@ -1,5 +1,7 @@
 //! The generator: good drafts are good, every refusal is reached, the same seed is the same stream.
 
+mod common;
+use common::words_of;
 use second::bytes::{checksum, fields_of, is_text, kind_of, records_of};
 use second::cases::dice::Dice;
 use second::cases::draft::Draft;
@@ -35,7 +37,7 @@ fn the_stream_of_seed_1_on_any_machine() {
     let sum = stream
         .iter()
         .fold(0xcbf2_9ce4_8422_2325_u64, |sum, &byte| (sum ^ u64::from(byte)).wrapping_mul(0x0100_0000_01b3));
-    assert_eq!((stream.len(), sum), (6_902_811, 5_235_436_980_551_809_883));
+    assert_eq!((stream.len(), sum), (8_028_819, 14_841_735_965_558_456_054));
 }
 
 #[test]
@@ -48,9 +50,9 @@ fn only_the_kinds_asked_for() {
 
 #[test]
 fn every_refusal_is_reached() {
-    let stream = generator(11, "").stream(5200);
+    let stream = generator(11, "").stream(10_000);
     let census = census(&stream).unwrap_or_else(|_| panic!("a good stream"));
-    let reader = [1, 2, 3, 4, 5, 6, 7, 8, 9, 10, 11, 12, 13, 14, 15];
+    let reader = [1, 21, 2, 3, 4, 5, 6, 7, 8, 9, 10, 11, 12, 13, 14, 15];
     let all: [(&str, Vec<usize>); 9] = [
         ("judge", reader.to_vec()),
         ("read", [&reader[..], &[17]].concat()),
@@ -58,9 +60,9 @@ fn every_refusal_is_reached() {
         ("export", [&reader[..], &[17]].concat()),
         ("import", vec![2, 16, 17, 20]),
         ("value", [&reader[..], &[18]].concat()),
-        ("write", vec![1, 2, 3, 4, 5, 6, 7, 8, 9, 10, 11, 12, 13, 15, 16, 17]),
+        ("write", vec![1, 21, 2, 3, 4, 5, 6, 7, 8, 9, 10, 11, 12, 13, 15, 16, 17]),
         ("field", vec![7, 8, 9, 10, 18]),
-        ("step", vec![1]),
+        ("step", vec![1, 21]),
     ];
     for (kind, numbers) in all {
         assert!(census.taken(kind) > 0, "{}", kind);
@@ -71,6 +73,34 @@ fn every_refusal_is_reached() {
     assert_eq!(census.not_reached(), [0; 0]);
 }
 
+/// The layout, the kind and the field that a case asks the value of, where it names a flow.
+fn field_asked(ask: &Ask) -> Option<(Vec<u8>, Vec<u8>, usize)> {
+    match *ask {
+        Ask::Value { flow, record, field, file } => {
+            let kind = kind_of(records_of(file).get(record.checked_sub(1)?)?);
+            Some((words_of(named(flow).ok()?), kind.to_vec(), field))
+        }
+        _ => None,
+    }
+}
+
+#[test]
+fn each_part_has_its_turn_with_every_field_of_the_sweep() {
+    let fields = published().iter().flat_map(|flow| flow.layouts.iter().map(move |layout| (flow, layout)));
+    let all: BTreeSet<_> = fields
+        .flat_map(|(flow, layout)| {
+            (2..layout.rules.len() + 2).map(|field| (words_of(flow), layout.kind.to_vec(), field))
+        })
+        .collect();
+    // A round has some fifty cases, and one of them takes a turn of the sweep for value: as many rounds as
+    // there are fields do, if its slot does not come back to the same few.
+    let stream = generator(9, "").stream(50 * all.len() as u64);
+    let asked: BTreeSet<_> =
+        cases_of(&stream).filter_map(|case| field_asked(&case.expect("a good header").ask)).collect();
+    let missing: Vec<_> = all.difference(&asked).collect();
+    assert!(missing.is_empty(), "{:?}", missing);
+}
+
 #[test]
 fn good_drafts_are_good_there_and_back() {
     for (place, flow) in published().iter().enumerate() {
@@ -78,12 +108,12 @@ fn good_drafts_are_good_there_and_back() {
             let dice = &mut Dice::new(place as u64, turn);
             let draft = Draft::good(flow, [0, 100, 500, 3000][turn as usize % 4], dice);
             let file = draft.file();
-            let name = flow.name.as_bytes();
-            assert_eq!(judge(name, &file), Ok(draft.records.len()));
+            let words = words_of(flow);
+            assert_eq!(judge(&words, &file), Ok(draft.records.len()));
             let mut room = vec![0; file.len() + 1];
-            let sheet = read(name, &file, &mut room).unwrap();
+            let sheet = read(&words, &file, &mut room).unwrap();
             let sheet = room[..sheet.bytes].to_vec();
-            let made = write(name, &sheet, &mut room).unwrap();
+            let made = write(&words, &sheet, &mut room).unwrap();
             let ended = if draft.last_line_feed { file } else { [&file[..], b"\n"].concat() };
             assert_eq!(&room[..made.bytes], &ended[..]);
             assert_eq!(made_sheet(&made_file(&sheet)), sheet);
@@ -98,16 +128,16 @@ fn drafts_of_an_exact_length() {
         let dice = &mut Dice::new(5, turn);
         let draft = Draft::of_length(FILE_LIMIT, false, dice);
         assert_eq!(draft.file().len(), FILE_LIMIT);
-        assert_eq!(judge(draft.flow.name.as_bytes(), &draft.file()), Ok(draft.records.len()));
+        assert_eq!(judge(&words_of(draft.flow), &draft.file()), Ok(draft.records.len()));
         let draft = Draft::of_length(SHEET_LIMIT, true, dice);
         assert_eq!(draft.sheet().len(), SHEET_LIMIT);
-        assert!(write(draft.flow.name.as_bytes(), &draft.sheet(), &mut vec![0; 1_048_100]).is_ok());
+        assert!(write(&words_of(draft.flow), &draft.sheet(), &mut vec![0; 1_048_100]).is_ok());
     }
 }
 
 /// The number that a draft is refused with.
 fn number_of(draft: &Draft) -> u8 {
-    judge(draft.flow.name.as_bytes(), &draft.file()).map_or_else(|refusal| refusal.number, |_| 0)
+    judge(&words_of(draft.flow), &draft.file()).map_or_else(|refusal| refusal.number, |_| 0)
 }
 
 #[test]
@@ -156,7 +186,7 @@ fn each_flow_has_sheets_that_no_footer_may_follow() {
             draft.last_line_feed = true;
             no_made_footer(&mut draft, dice);
             let sheet = draft.sheet();
-            let refused = write(flow.name.as_bytes(), &sheet, &mut vec![0; sheet.len() + 50]);
+            let refused = write(&words_of(flow), &sheet, &mut vec![0; sheet.len() + 50]);
             let made_footer = Refusal::at(5, records_of(&sheet).len() + 1, 1, sheet.len());
             assert!(!sheet.is_empty() && refused == Err(made_footer), "{} {}", flow.name, turn);
         }

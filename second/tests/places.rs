@@ -122,12 +122,12 @@ fn places_in_files_that_are_judged() {
 
 #[test]
 fn places_in_files_that_are_read() {
-    hold("read", 1200, &IN_FILES);
+    hold("read", 1500, &IN_FILES);
 }
 
 #[test]
 fn places_in_files_to_index() {
-    hold("index", 2000, &IN_FILES);
+    hold("index", 2200, &IN_FILES);
 }
 
 #[test]

@@ -30,10 +30,15 @@ fn answers_to_files() {
     assert_eq!(answered("judge\t\t0", b""), "refused\t1\t0\t0\t0\n");
     assert_eq!(answered("judge\tP0138001\t0", b""), "refused\t14\t1\t0\t0\n");
     assert_eq!(answered("judge\tP0138001\t72", &EXAMPLE[..72]), "refused\t14\t4\t0\t72\n");
+    assert_eq!(answered("judge\tP0138001 711\t88", EXAMPLE), "ok\t0\t4\t0\t0\n");
+    assert_eq!(answered("judge\tP0138001 712\t88", EXAMPLE), "refused\t21\t0\t0\t0\n");
+    assert_eq!(answered("judge\tP0138001 \t88", EXAMPLE), "refused\t21\t0\t0\t0\n");
     assert_eq!(answered("value\tP0138001\t1\t1\t88", EXAMPLE), "ok\t0\ttext\tZHD\n");
     assert_eq!(answered("value\tP0138001\t2\t3\t88", EXAMPLE), "ok\t0\tempty\t\n");
     assert_eq!(answered("value\tP0138001\t3\t2\t88", EXAMPLE), "ok\t0\tnumber\t10250\n");
     assert_eq!(answered("value\tP0138001\t9\t2\t88", EXAMPLE), "refused\t18\t9\t2\t88\n");
+    assert_eq!(answered("value\tP0138001 533\t3\t2\t88", EXAMPLE), "ok\t0\tnumber\t10250\n");
+    assert_eq!(answered("value\tP0138001 532\t9\t2\t88", EXAMPLE), "refused\t21\t0\t0\t0\n");
 }
 
 #[test]
@@ -54,6 +59,8 @@ fn answers_to_sums_and_steps() {
     assert_eq!(answered("step\tP0181002\t6", b"ZHDGS7"), "ok\t0\topen\tGS7SUPZPT\n");
     assert_eq!(answered("step\tP0133001\t6", b"ZHDTA2"), "stopped\t0\t2\t0\n");
     assert_eq!(answered("step\tP0133002\t6", b"ZHDTA2"), "refused\t1\t0\t0\t0\n");
+    assert_eq!(answered("step\tP0133001 711\t6", b"ZHDSB1"), "ok\t0\topen\tSB1CM1ZPT\n");
+    assert_eq!(answered("step\tP0133001 710\t6", b"ZHDTA2"), "refused\t21\t0\t0\t0\n");
 }
 
 #[test]
@@ -66,6 +73,8 @@ fn answers_to_sheets() {
     let text = String::from_utf8(sheet).unwrap();
     assert_eq!(answered("read\tP0138001\t100\t88", EXAMPLE), format!("ok\t0\t4\t72\t0\t1\n{}\n", text));
     assert_eq!(answered("read\tP0138001\t0\t0", b""), "refused\t14\t1\t0\t0\t1\n");
+    assert_eq!(answered("write\tP0138001  711\t9\t0", b""), "refused\t21\t0\t0\t0\t1\n");
+    assert_eq!(answered("read\tP0138001 7\t9\t0", b""), "refused\t21\t0\t0\t0\t1\n");
 }
 
 #[test]
@@ -82,6 +91,8 @@ fn answers_to_indexes() {
     assert_eq!(answered("index\tP0138001\t0\t88", EXAMPLE), "ok\t0\t4\t0\t0\t1\n");
     assert_eq!(answered("index\tP0138001\t5\t86", &EXAMPLE[..86]), "refused\t13\t4\t3\t78\t1\n");
     assert_eq!(answered("index\t\t0000008192\t0", b""), "refused\t1\t0\t0\t0\t1\n");
+    assert_eq!(answered("index\tP0138001 711\t5\t88", EXAMPLE), "ok\t0\t4\t0\t0\t1\n");
+    assert_eq!(answered("index\tP0138001 711 \t5\t88", EXAMPLE), "refused\t21\t0\t0\t0\t1\n");
 }
 
 #[test]
@@ -94,6 +105,7 @@ fn answers_to_exports() {
     assert_eq!(answered("export\tP0138001\t0\t72", &EXAMPLE[..72]), "refused\t14\t4\t0\t72\t1\n");
     assert_eq!(answered("export\tP0138001\t9\t86", &EXAMPLE[..86]), "refused\t13\t4\t3\t78\t1\n");
     assert_eq!(answered("export\t\t0\t0", b""), "refused\t1\t0\t0\t0\t1\n");
+    assert_eq!(answered("export\tP0138001 533 711\t9\t88", EXAMPLE), "refused\t21\t0\t0\t0\t1\n");
 }
 
 #[test]
@@ -274,14 +286,17 @@ fn the_census_counts_by_kind_and_number() {
         case(&format!("index\tP0133001\t1\t{}", sets.len()), &sets),
         case("export\tP0138001\t75\t88", EXAMPLE),
         case("import\t9\t1", b"\t"),
+        case("step\tP0133001 533\t3", b"ZHD"),
+        case("step\tP0133001 0711\t3", b"ZHD"),
     ];
     let counted = |stream: &[u8]| census(stream).unwrap_or_else(|_| panic!("a good stream"));
     let all = counted(&stream.concat());
     assert_eq!((all.taken("judge"), all.taken("sum"), all.refused("judge", 14)), (1, 1, 1));
     assert_eq!((all.taken("index"), all.refused("index", 19), all.refused("read", 19)), (1, 1, 0));
     assert_eq!((all.taken("export"), all.taken("import"), all.refused("import", 20)), (1, 0, 1));
+    assert_eq!((all.taken("step"), all.refused("step", 21), all.refused("judge", 21)), (1, 1, 0));
     assert_eq!(all.not_reached().len(), 17);
     assert!(all.table().ends_with("refusals not reached: 1 2 3 4 5 6 7 8 9 10 11 12 13 15 16 17 18\n"));
-    assert_eq!(counted(&stream[..4].concat()).not_reached().last(), Some(&20));
-    assert_eq!(counted(&stream[6..].concat()).not_reached().last(), Some(&19));
+    assert_eq!(counted(&stream[..7].concat()).not_reached().last(), Some(&21));
+    assert_eq!(counted(&stream[7..].concat()).not_reached().last(), Some(&20));
 }

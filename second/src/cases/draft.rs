@@ -5,7 +5,7 @@ use super::keys::key_in_order;
 use super::values::{good, letters};
 use crate::bytes::{checksum, BAR, LINE_FEED, TAB};
 use crate::field::{Mark, Type};
-use crate::flows::{Flow, Layout};
+use crate::flows::{named, Flow, Layout};
 use crate::grammar::{Kind, Set};
 use std::collections::BTreeMap;
 use std::sync::Arc;
@@ -19,10 +19,15 @@ pub struct Draft {
     pub last_line_feed: bool,
 }
 
-/// The flows whose files can come near the limit, each with a kind that has no key and can
-/// stand anywhere before the footer, to fill a file up with.
-pub const LONG_FLOWS: [(&str, &[u8; 3]); 4] =
-    [("P0181002", b"GS7"), ("P0133001", b"SB1"), ("P0134001", b"SB2"), ("P0164001", b"SUB")];
+/// The words of the flows whose files can come near the limit, each with a kind that has no key and
+/// can stand anywhere before the footer, to fill a file up with.
+pub const LONG_FLOWS: [(&str, &[u8; 3]); 5] = [
+    ("P0181002", b"GS7"),
+    ("P0133001 533", b"SB1"),
+    ("P0133001 711", b"SB1"),
+    ("P0134001", b"SB2"),
+    ("P0164001", b"SUB"),
+];
 
 impl Draft {
     /// A good file, grown until it has some `size` bytes or the flow allows no more.
@@ -50,8 +55,8 @@ impl Draft {
 
     /// A good draft whose file (or whose sheet) has exactly this length.
     pub fn of_length(length: usize, as_sheet: bool, dice: &mut Dice) -> Draft {
-        let (name, kind) = *dice.pick(&LONG_FLOWS);
-        let flow = crate::flows::named(name.as_bytes()).expect("a long flow is published");
+        let (words, kind) = *dice.pick(&LONG_FLOWS);
+        let flow = named(words.as_bytes()).expect("a long flow is published");
         let layout = flow.layout(kind).expect("and so is its kind");
         let mut draft = Draft::good(flow, length - 450, dice);
         draft.last_line_feed = true;

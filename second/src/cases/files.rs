@@ -2,16 +2,17 @@
 
 use super::dice::Dice;
 use super::draft::{Draft, LONG_FLOWS};
+use super::editions;
 use super::edits::{edit, spoil_byte, LOUD};
 use super::faults::spoil;
 use super::footers::{early_footer, no_made_footer};
-use super::values::letters;
+use super::words;
 use crate::flows::{published, Flow};
 use crate::judge::FILE_LIMIT;
 use crate::sheet::SHEET_LIMIT;
 use crate::stream::LENGTH_LIMIT;
 
-/// A flow's name and the bytes given for it.
+/// The words that ask for a flow, and the bytes given for it.
 pub struct Given {
     pub flow: Vec<u8>,
     pub bytes: Vec<u8>,
@@ -20,19 +21,32 @@ pub struct Given {
 /// One in so many files, and one in so many sheets, is near or over its limit.
 const BIG_FILE: usize = 300;
 const BIG_SHEET: usize = 150;
+/// One in so many files and sheets is good, and given with any words; and one in so many is laid out
+/// for one edition, and given for that or for the other.
+const OTHER_WORDS: usize = 20;
+const OTHER_EDITION: usize = 20;
+/// One in so many with other words is over its limit, too: wrong words are refused first.
+const LONG_WITH_WORDS: usize = 20;
 
-/// The faults that a small file can have; a file over its limit is a matter of its own.
-const FAULTS: [u8; 14] = [1, 3, 4, 5, 6, 7, 8, 9, 10, 11, 12, 13, 14, 15];
+/// The faults that a small file, or its words, can have; a file over its limit is a matter of its own.
+pub const FAULTS: [u8; 15] = [1, 21, 3, 4, 5, 6, 7, 8, 9, 10, 11, 12, 13, 14, 15];
 
-/// A file. Of the small ones so many in a hundred are good.
+/// A file. Of the small ones so many in a hundred are good, and given with their own words.
 pub fn file(good: usize, dice: &mut Dice) -> Given {
     if dice.one_in(BIG_FILE) {
         return big_file(dice);
     }
+    if dice.one_in(OTHER_WORDS) {
+        return Given { flow: words::any(dice), bytes: good_file(dice).bytes };
+    }
+    if dice.one_in(OTHER_EDITION) {
+        let (draft, words) = editions::draft_and_words(dice);
+        return Given { flow: words, bytes: draft.file() };
+    }
     if dice.below(100) < good {
         return good_file(dice);
     }
-    match dice.weighed(&[30, 36, 22, 4, 4, 4]) {
+    match dice.weighed(&[30, 36, 22, 4, 4]) {
         0 => {
             let fault = *dice.pick(&FAULTS);
             faulty_file(&[fault], dice)
@@ -47,39 +61,46 @@ pub fn file(good: usize, dice: &mut Dice) -> Given {
             given
         }
         3 => early_file(dice),
-        4 => Given { flow: flow_name(dice), bytes: good_file(dice).bytes },
-        _ => Given { flow: dice.pick(published()).name.into(), bytes: odd_bytes(dice) },
+        _ => Given { flow: words::right(dice.pick(published()), dice), bytes: odd_bytes(dice) },
     }
 }
 
 fn good_file(dice: &mut Dice) -> Given {
     let draft = Draft::good(dice.pick(published()), size(dice), dice);
-    given(&draft, draft.file())
+    given(&draft, draft.file(), dice)
 }
 
-/// A sheet. Of the small ones so many in a hundred are good.
+/// A sheet. Of the small ones so many in a hundred are good, and given with their own words.
 pub fn sheet(good: usize, dice: &mut Dice) -> Given {
     if dice.one_in(BIG_SHEET) {
         return big_sheet(dice);
     }
+    if dice.one_in(OTHER_WORDS) {
+        return Given { flow: words::any(dice), bytes: right_sheet(dice).bytes };
+    }
+    if dice.one_in(OTHER_EDITION) {
+        let (mut draft, words) = editions::draft_and_words(dice);
+        draft.last_line_feed = true;
+        return Given { flow: words, bytes: draft.sheet() };
+    }
     if dice.below(100) < good {
         return right_sheet(dice);
     }
-    let mut given = match dice.weighed(&[4, 2, 1, 1, 1, 2, 3]) {
+    let mut given = match dice.weighed(&[6, 2, 1, 1, 1, 2, 3]) {
         0 => {
             let faults = [*dice.pick(&FAULTS), *dice.pick(&FAULTS)];
             let mut draft = good_sheet(&faults, dice);
             spoil(&mut draft, &faults[dice.below(2)..], dice);
-            given(&draft, draft.sheet())
+            given(&draft, draft.sheet(), dice)
         }
         1 => sheet_with_footer(dice),
         2 => {
             let draft = good_sheet(&[], dice);
             let mut sheet = draft.sheet();
             edit(&mut sheet, dice);
-            given(&draft, sheet)
+            given(&draft, sheet, dice)
         }
-        3 => Given { flow: dice.pick(published()).name.into(), bytes: odd_bytes(dice) },
+        3 => Given { flow: words::right(dice.pick(published()), dice), bytes: odd_bytes(dice) },
         4 => good_file(dice),
         5 => sheet_without_made_footer(dice),
         _ => right_sheet(dice),
@@ -91,7 +112,10 @@ pub fn sheet(good: usize, dice: &mut Dice) -> Given {
         given.bytes.pop();
     }
     if dice.one_in(10) {
-        given.flow = flow_name(dice);
+        given.flow = words::any(dice);
+        if dice.one_in(LONG_WITH_WORDS) {
+            given.bytes.resize(SHEET_LIMIT + 1, *dice.pick(LOUD));
+        }
     }
     given
 }
@@ -105,7 +129,7 @@ fn good_sheet(faults: &[u8], dice: &mut Dice) -> Draft {
 
 fn right_sheet(dice: &mut Dice) -> Given {
     let draft = good_sheet(&[], dice);
-    given(&draft, draft.sheet())
+    given(&draft, draft.sheet(), dice)
 }
 
 /// A sheet with a footer line, at its end or early, right or wrong.
@@ -119,42 +143,19 @@ fn sheet_with_footer(dice: &mut Dice) -> Given {
     }
     let fault = *dice.pick(&FAULTS);
     spoil(&mut draft, &[*dice.pick(&[fault, 12, 13])], dice);
-    given(&draft, draft.sheet())
+    given(&draft, draft.sheet(), dice)
 }
 
 /// A sheet that is right as far as it goes, and that no made footer may follow.
 fn sheet_without_made_footer(dice: &mut Dice) -> Given {
     let mut draft = good_sheet(&[], dice);
     no_made_footer(&mut draft, dice);
-    given(&draft, draft.sheet())
-}
-
-/// A flow's name, mostly one that is none.
-pub fn flow_name(dice: &mut Dice) -> Vec<u8> {
-    let own = dice.pick(published()).name.as_bytes();
-    match dice.below(9) {
-        0 => own.to_ascii_lowercase(),
-        1 => own[..dice.below(8)].to_vec(),
-        2 => [own, &letters(1, dice)].concat(),
-        3 => [b" ", &own[..7]].concat(),
-        4 => {
-            let mut name = own.to_vec();
-            spoil_byte(&mut name, dice);
-            // Neither byte can stand in a header's word.
-            name.into_iter().map(|byte| if byte == b'\t' || byte == b'\n' { b'\r' } else { byte }).collect()
-        }
-        5 => b"P0138002".to_vec(),
-        6 => {
-            let length = dice.below(40);
-            letters(length, dice)
-        }
-        _ => own.to_vec(),
-    }
+    given(&draft, draft.sheet(), dice)
 }
 
 /// The bytes of a draft, for its own flow.
-pub fn given(draft: &Draft, bytes: Vec<u8>) -> Given {
-    Given { flow: draft.flow.name.into(), bytes }
+pub fn given(draft: &Draft, bytes: Vec<u8>, dice: &mut Dice) -> Given {
+    Given { flow: words::right(draft.flow, dice), bytes }
 }
 
 /// Most files are small, one in some eighty has more than 64 KiB.
@@ -184,9 +185,14 @@ fn fitting(faults: &[u8], dice: &mut Dice) -> Draft {
 fn faulty_file(faults: &[u8], dice: &mut Dice) -> Given {
     let mut draft = fitting(faults, dice);
     spoil(&mut draft, faults, dice);
-    let mut given = given(&draft, draft.file());
+    let mut given = given(&draft, draft.file(), dice);
     if faults.contains(&1) {
-        given.flow = flow_name(dice);
+        given.flow = words::no_flow(dice);
+    } else if faults.contains(&21) {
+        given.flow = words::no_edition(dice);
+        if dice.one_in(LONG_WITH_WORDS) {
+            given.bytes.resize(FILE_LIMIT + 1, *dice.pick(LOUD));
+        }
     }
     given
 }
@@ -198,7 +204,7 @@ fn early_file(dice: &mut Dice) -> Given {
     let faults: [&[u8]; 6] = [&[], &[], &[4], &[5], &[12], &[13]];
     let faults = *dice.pick(&faults);
     spoil(&mut draft, faults, dice);
-    given(&draft, draft.file())
+    given(&draft, draft.file(), dice)
 }
 
 /// Bytes that are no file of any flow.
@@ -243,11 +249,11 @@ fn big_file(dice: &mut Dice) -> Given {
                 let fault = *dice.pick(&FAULTS);
                 spoil(&mut draft, &[fault], dice);
             }
-            given(&draft, draft.file())
+            given(&draft, draft.file(), dice)
         }
     };
     match dice.below(6) {
-        0 => given.flow = flow_name(dice),
+        0 => given.flow = words::any(dice),
         1 => spoil_byte(&mut given.bytes, dice),
         _ => {}
     }
@@ -257,7 +263,7 @@ fn big_file(dice: &mut Dice) -> Given {
 /// A good file at its limit, whose sheet is longer than the writer takes; or one byte over it.
 pub fn long_file(dice: &mut Dice) -> Given {
     let draft = Draft::of_length(*dice.pick(&[FILE_LIMIT, FILE_LIMIT + 1]), false, dice);
-    given(&draft, draft.file())
+    given(&draft, draft.file(), dice)
 }
 
 /// A small file, good or not, with a long tail behind it.
@@ -276,11 +282,11 @@ fn big_sheet(dice: &mut Dice) -> Given {
     if dice.one_in(3) {
         spoil(&mut draft, &[fault], dice);
     }
-    let mut given = given(&draft, draft.sheet());
+    let mut given = given(&draft, draft.sheet(), dice);
     match dice.below(8) {
         0 => put_bars(&mut given.bytes, dice),
         1 => drop(given.bytes.pop()),
-        2 => given.flow = flow_name(dice),
+        2 => given.flow = words::any(dice),
         3 => given.flow = dice.pick(&LONG_FLOWS).0.into(),
         _ => {}
     }

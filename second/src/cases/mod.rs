@@ -2,6 +2,7 @@
 
 pub mod dice;
 pub mod draft;
+pub mod editions;
 pub mod edits;
 pub mod faults;
 pub mod files;
@@ -12,6 +13,7 @@ pub mod parts;
 pub mod sweep;
 pub mod texts;
 pub mod values;
+pub mod words;
 
 use crate::bytes::{fields_of, records_of};
 use crate::csv::{imported, made_text};
@@ -106,7 +108,9 @@ impl Generator {
         // Short streams of other seeds begin elsewhere.
         let start = Dice::new(self.seed, u64::MAX).below(1000);
         if own.is_swept {
-            Some(start + round * all + before)
+            // The slots change places each round, so that each has every turn of the sweep in time,
+            // even where their number divides that of the turns.
+            Some(start + round * all + (before + round) % all)
         } else {
             None
         }
@@ -182,7 +186,7 @@ fn file(turn: Option<usize>, good: usize, dice: &mut Dice) -> (Given, Option<(us
     match turn {
         Some(turn) => {
             let Swept { draft, record, field } = swept(turn, dice);
-            (given(&draft, draft.file()), Some((record, field)))
+            (given(&draft, draft.file(), dice), Some((record, field)))
         }
         None => (files::file(good, dice), None),
     }
@@ -192,7 +196,7 @@ fn sheet(turn: Option<usize>, dice: &mut Dice) -> Given {
     match turn {
         Some(turn) => {
             let draft = swept(turn, dice).draft;
-            given(&draft, draft.sheet())
+            given(&draft, draft.sheet(), dice)
         }
         None => files::sheet(45, dice),
     }

@@ -2,8 +2,9 @@
 
 use super::dice::Dice;
 use super::edits::{edit, LOUD};
-use super::files::{file, flow_name};
-use super::values::{bad_form, bad_range, good, letters};
+use super::files::file;
+use super::values::{bad_form, bad_range, good};
+use super::words;
 use crate::field::Type;
 use crate::flows::{published, Flow};
 use crate::stream::LENGTH_LIMIT;
@@ -101,7 +102,7 @@ pub fn sum_bytes(dice: &mut Dice) -> Vec<u8> {
     }
 }
 
-/// A flow's name and a list of kinds: a walk of the grammar, then perhaps something wrong.
+/// The words of a flow and a list of kinds: a walk of the grammar, then perhaps something wrong.
 pub fn step_list(dice: &mut Dice) -> (Vec<u8>, Vec<u8>) {
     let flow = dice.pick(published());
     let length = if dice.one_in(60) { 20_000 } else { *dice.pick(&[0, 1, 2, 3, 4, 5, 8, 12, 30]) };
@@ -128,12 +129,8 @@ pub fn step_list(dice: &mut Dice) -> (Vec<u8>, Vec<u8>) {
         }
         _ => {}
     }
-    let name = match dice.below(16) {
-        0 => flow_name(dice),
-        1 => letters(8, dice),
-        _ => flow.name.into(),
-    };
-    (name, kinds)
+    let words = if dice.one_in(8) { words::any(dice) } else { words::right(flow, dice) };
+    (words, kinds)
 }
 
 /// Puts a kind in at some place of the list.

@@ -21,7 +21,7 @@ pub fn file(dice: &mut Dice) -> Given {
     if dice.one_in(LONG) {
         return long_file(dice);
     }
-    match dice.below(3) {
+    match dice.below(2) {
         0 => files::file(20, dice),
         _ => {
             let draft = good_draft(dice);
@@ -29,7 +29,7 @@ pub fn file(dice: &mut Dice) -> Given {
             if dice.one_in(6) {
                 edit(&mut file, dice);
             }
-            given(&draft, file)
+            given(&draft, file, dice)
         }
     }
 }
@@ -46,7 +46,7 @@ fn long_file(dice: &mut Dice) -> Given {
     }
     // A new checksum may be longer than the one before.
     let draft = quotable(Draft::of_length(FILE_LIMIT - 10, false, dice), dice);
-    given(&draft, draft.file())
+    given(&draft, draft.file(), dice)
 }
 
 /// A good draft with commas and quotation marks in some of its texts, each as long as before. Keys

@@ -3,6 +3,7 @@
 
 use second::bytes::checksum;
 use second::field::{judge_field, Mark, Type, Value};
+use second::flows::Flow;
 use second::judge::judge;
 
 /// Document 01's file of 88 bytes.
@@ -12,7 +13,7 @@ TA2|1.0250
 ZPT|4|812996689
 ";
 
-/// A small good file of a flow, without its footer.
+/// A small good file of a flow, named by its words, without its footer.
 pub fn lines(flow: &str) -> Vec<&'static str> {
     let text = match flow {
         "P0012001" => {
@@ -42,6 +43,13 @@ CM1||1|1.0|1
 CM1|_A|2|2.0|-2
 SB1|H|M|OTHER|20240105|M"
         }
+        "P0133001 711" => {
+            "ZHD|P0133001|Z|SVAA|Z|POOL|20240105120000
+SB1|M|SUPPLIER|20240105|M
+CM1||1|1.0|1
+CM1|_A|2|2.0|-2
+SB1|M|OTHER|20240105|M"
+        }
         "P0134001" => {
             "ZHD|P0134001|Z|SVAA|Z|POOL|20240105120000
 SB2|M|SUPPLIER|20240105|M
@@ -66,6 +74,11 @@ SP7|_A|NHHD|A|20240101|SF|12"
 }
 
 pub const FLOWS: [&str; 6] = ["P0012001", "P0181002", "P0133001", "P0134001", "P0138001", "P0164001"];
+
+/// Words that ask for a flow.
+pub fn words_of(flow: &Flow) -> Vec<u8> {
+    flow.words()[0].clone().into_bytes()
+}
 
 /// The lines as a file with a right footer.
 pub fn footed<L: AsRef<[u8]>>(lines: &[L]) -> Vec<u8> {
