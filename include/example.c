@@ -6,7 +6,8 @@
      step FLOW LENGTH     write FLOW ROOM LENGTH            read FLOW ROOM LENGTH              index FLOW ROOM LENGTH
      import ROOM LENGTH   export FLOW ROOM LENGTH
 
-   ROOM is a number of bytes, for index of entries. The line of an index is followed by a line for each entry.
+   FLOW is a flow's name, or that, a space and an edition. ROOM is a number of bytes, for index of entries. The line of an index
+   is followed by a line for each entry.
 
    With the word `codes` it makes the calls that no case can state; codes.expected has their answers. It includes no header
    of the C library, so that any C compiler for x86-64 Linux will do. */

@@ -9,11 +9,13 @@
    - What is written (answer, out, follow, cells) overlaps nothing else that is given to the same call.
    No function keeps anything between calls or allocates, so several threads may call at once; 8 KiB of stack are enough.
 
-   A flow is the eight characters of its name: P0012001, P0133001, P0134001, P0138001, P0164001 or P0181002. Records and
-   fields count from 1. An answer is four cells. All four are written, whatever they held, and a cell that says nothing is 0:
+   A flow is the eight characters of its name: P0012001, P0133001, P0134001, P0138001, P0164001 or P0181002; or these, a space
+   and an edition, 533 or 711, as in "P0133001 711". Where no edition is named, 533 is used. P0133001 has an SB1 of its own in
+   each edition; every other flow is the same in both. Records and fields count from 1. An answer is four cells. All four are
+   written, whatever they held, and a cell that says nothing is 0:
 
      cell          0                1           2                3
-     any refusal   number, 1 to 20  record or 0 field or 0       byte place
+     any refusal   number, 1 to 21  record or 0 field or 0       byte place
      judge         0                records     0                0
      write, read   0                records     bytes written    0
      export        0                records     bytes written    0
@@ -38,7 +40,10 @@
       4 no kind of this flow     11 key out of its order           18 no such record, field, width or code
       5 kind not allowed here    12 record count wrong             19 cells too few for the entries
       6 wrong number of fields   13 checksum wrong                 20 not comma-separated text
-      7 required field empty     14 records end before ZPT */
+      7 required field empty     14 records end before ZPT        21 no such edition
+
+   1 is for a name that is none of these, or with anything but a space behind it; 21 for a space with anything but 533 or 711
+   behind it, of whichever flow. 21 comes right after 1, before all else that a function may refuse. */
 #ifndef SCREEN_H
 #define SCREEN_H
 

@@ -1,6 +1,8 @@
 //! The screen for Rust: the functions of `screen.h`, which says what each does, what the four cells of an answer hold and what a
 //! caller has to see to; here each call is `unsafe` for that reason. `bin/c-example` holds this file to `screen.h`.
 //!
+//! A flow is asked for by its name, or by that, a space and an edition: `b"P0133001 711"`.
+//!
 //! Link `target/staticlib/libscreen.a`, for x86-64 Linux, which `rt staticlib screen` builds. In a `build.rs`:
 //! `println!("cargo:rustc-link-search=native=target/staticlib"); println!("cargo:rustc-link-lib=static=screen");`
 

@@ -21,6 +21,14 @@ struct flow { char name[9]; int feed; unsigned first; int kinds; struct kind kin
 #define FOOTER { "ZPT", 0, 2, { I(10), I(10) }, NO_KEY }
 #define BIT(k) (1u << (k))
 
+// P0133001, with the fields of its SB1.
+#define P0133001(fields, ...) \
+    { "P0133001", 0, BIT(1), 4, { \
+        HEADER("P0133001", T_IS(1, "Z"), T_IS(1, "Z"), BIT(2) | BIT(4)), \
+        { "SB1", BIT(2) | BIT(3) | BIT(4), fields, { __VA_ARGS__ }, NO_KEY }, \
+        { "CM1", BIT(2) | BIT(3) | BIT(4), 4, { T_OPT(2), I(7), D(4, 1), I(7) }, NO_KEY }, \
+        FOOTER } }
+
 // Kinds count from 1; the last is the footer. A key field counts the kind as field 1; head is the kind that starts the key anew;
 // order says whether a key may be equal to the one before.
 static const struct flow flows[] = {
@@ -37,11 +45,7 @@ static const struct flow flows[] = {
         { "SUP", BIT(4), 1, { T(4) }, 2, 2, STRICT },
         { "BMU", BIT(2) | BIT(3) | BIT(4) | BIT(5), 4, { T(11), DAY, { DATE, 0, 0, OPT, 0 }, { BOL, 0, 0, BARE, 0 } }, 2, 3, STRICT },
         FOOTER } },
-    { "P0133001", 0, BIT(1), 4, {
-        HEADER("P0133001", T_IS(1, "Z"), T_IS(1, "Z"), BIT(2) | BIT(4)),
-        { "SB1", BIT(2) | BIT(3) | BIT(4), 5, { T_IS(1, "H"), T_IS(1, "M"), T(8), DAY, T_IS(1, "M") }, NO_KEY },
-        { "CM1", BIT(2) | BIT(3) | BIT(4), 4, { T_OPT(2), I(7), D(4, 1), I(7) }, NO_KEY },
-        FOOTER } },
+    P0133001(5, T_IS(1, "H"), T_IS(1, "M"), T(8), DAY, T_IS(1, "M")),
     { "P0134001", 0, BIT(1), 4, {
         HEADER("P0134001", T_IS(1, "Z"), T_IS(1, "Z"), BIT(2) | BIT(4)),
         { "SB2", BIT(2) | BIT(3) | BIT(4), 4, { T_IS(1, "M"), T(8), DAY, T_IS(1, "M") }, NO_KEY },
@@ -58,6 +62,10 @@ static const struct flow flows[] = {
         { "SP7", BIT(2) | BIT(3) | BIT(4), 6, { T(2), T(4), T(1), DAY, T(2), I(10) }, 5, 2, EQUAL_ALLOWED },
         FOOTER } },
 };
+
+// What P0133001 is in edition 711.
+static const struct flow p0133_in_711 = P0133001(4, T_IS(1, "M"), T(8), DAY, T_IS(1, "M"));
+static const char usual_edition[] = "533";
 
 static const unsigned char text_character[256] = {
     [' '] = 1, ['.'] = 1, [','] = 1, ['-'] = 1, ['('] = 1, [')'] = 1, ['/'] = 1, ['\''] = 1, ['+'] = 1, [':'] = 1, ['='] = 1,
@@ -238,10 +246,17 @@ static int check_record(const struct flow *f, struct state *st, const unsigned c
     return 1;
 }
 
-static const struct flow *find_flow(const unsigned char *name, size_t n) {
-    for (size_t i = 0; i < sizeof flows / sizeof *flows; i++)
-        if (n == 8 && !memcmp(flows[i].name, name, 8)) return &flows[i];
-    return 0;
+// The flow of a name, or of a name, a space and an edition; or a refusal.
+static const struct flow *find_flow(const unsigned char *words, size_t n, struct peer_answer *a) {
+    const struct flow *named = 0;
+    for (size_t i = 0; n >= 8 && i < sizeof flows / sizeof *flows; i++)
+        if (!memcmp(flows[i].name, words, 8)) named = &flows[i];
+    if (!named || (n > 8 && words[8] != ' ')) return refuse(a, 1, 0, 0, 0), (const struct flow *)0;
+    const void *edition = n > 8 ? words + 9 : (const unsigned char *)usual_edition;
+    size_t len = n > 8 ? n - 9 : 3;
+    if (len == 3 && !memcmp(edition, "533", 3)) return named;
+    if (len == 3 && !memcmp(edition, "711", 3)) return memcmp(named->name, "P0133001", 8) ? named : &p0133_in_711;
+    return refuse(a, 21, 0, 0, 0), (const struct flow *)0;
 }
 
 static int check_records(const struct flow *f, struct state *st, const unsigned char *s, size_t n, unsigned char sep, struct peer_answer *a) {
@@ -266,8 +281,8 @@ static size_t last_line(const unsigned char *s, size_t n) {
 struct peer_answer peer_judge(const unsigned char *name, size_t name_len, const unsigned char *s, size_t n) {
     struct peer_answer a = { 0 };
     struct state st = { 0 };
-    const struct flow *f = find_flow(name, name_len);
-    if (!f) return refuse(&a, 1, 0, 0, 0), a;
+    const struct flow *f = find_flow(name, name_len, &a);
+    if (!f) return a;
     if (n > 1048576) return refuse(&a, 2, 0, 0, 0), a;
     if (!check_records(f, &st, s, n, '|', &a)) return a;
     if (st.last != f->kinds) return refuse(&a, 14, st.count + 1, 0, n), a;
@@ -288,8 +303,8 @@ struct peer_answer peer_write(const unsigned char *name, size_t name_len, const 
     struct peer_answer a = { 0 };
     struct state st = { 0 };
     unsigned char footer[32] = "ZPT|";
-    const struct flow *f = find_flow(name, name_len);
-    if (!f) return refuse(&a, 1, 0, 0, 0), a;
+    const struct flow *f = find_flow(name, name_len, &a);
+    if (!f) return a;
     if (n > 1048000) return refuse(&a, 2, 0, 0, 0), a;
     const unsigned char *bar = memchr(s, '|', n);
     size_t line = 1;

@@ -16,16 +16,17 @@ use Rattle.number.specs.Order.{digitsOrder, wholeOrder}
 use Rattle.place.specs.Places.{fieldStart, placeAt}
 use Rattle.layout.specs.Layout.{among, find}
 use Rattle.flow.specs.Flows.{flowNumber}
+use Rattle.flow.specs.Editions.{usual, asked}
 use Rattle.flow.specs.ByTable.{followersFrom}
 use Rattle.flow.specs.Step.{kindsIn}
 use Rattle.flow.proofs.Stepped.{stepped}
 use Rattle.fault.specs.Fields.{fieldFault, fieldsFault}
 use Rattle.fault.specs.Record.{placeFault, shapeFault, keyFault, footerFault, kindFault}
 use Rattle.judge.specs.Record.{lastKind, keyWith, keyBefore, fault}
-use Rattle.judge.specs.File.{checkedFrom, ended, judgedBy, verdict, judged}
-use Rattle.value.specs.Value.{isThere, fieldValue, valueBy, valueIn, valued}
+use Rattle.judge.specs.File.{checkedFrom, ended, judgedBy, judgedFor, judged}
+use Rattle.value.specs.Value.{isThere, fieldValue, valueAt, valueBy, valueIn, valued}
 use Rattle.sheet.specs.Sheets.{footer, made, barLine, butLast, parted, sheetOf}
-use Rattle.sheet.specs.Write.{written}
+use Rattle.sheet.specs.Write.{writtenBy, written}
 use Rattle.sheet.specs.Read.{readTo}
 use Rattle.rfc4180.specs.Rfc.{textdata}
 use Rattle.rfc4180.specs.Walk.{nextOf, givenOf, stopAt, linesFrom, sheetFrom}
@@ -48,13 +49,14 @@ use Rattle.answers.proofs.PointAt.{pointAt}
 use Rattle.answers.proofs.BesideFile.{lent, besideFile}
 use Rattle.answers.proofs.MonthEnds.{monthEnds}
 use Rattle.answers.proofs.CommaText.{commaText}
+use Rattle.answers.proofs.NewerSubject.{newerSubject}
 
 -- the cases that are computed; where they fail, fewer of them at a time show which
 unfoldable pub computed : List Case
-computed = refusals ++ neighbours ++ steps ++ p0012 ++ p0181 ++ p0133 ++ p0134 ++ p0138 ++ p0164 ++ sameDate ++ pointAt ++ besideFile ++ monthEnds ++ commaText
+computed = refusals ++ neighbours ++ steps ++ p0012 ++ p0181 ++ p0133 ++ p0134 ++ p0138 ++ p0164 ++ sameDate ++ pointAt ++ besideFile ++ monthEnds ++ commaText ++ newerSubject
 
 computed-right : Right computed
-unfolding computed refusals neighbours steps p0012 p0181 p0133 p0134 p0138 p0164 sameDate pointAt besideFile monthEnds commaText lent copies given expected bytesBefore behind joined onto records fields field extent turned holds words addRecord checksum checksumOf minus unsigned plain intForm intValue decForm decValue spelled decimalIn decimal leap daysIn isDay isDate isTime textForm bolForm periodRange form range valueOf widthRight filled fieldAnswer judgedAs fieldJudged keyOrder numberOrder textOrder digitsOrder wholeOrder among find flowNumber isDigit isText fieldFault fieldsFault lastKind keyWith keyBefore placeFault shapeFault keyFault footerFault kindFault fault checkedFrom ended judgedBy verdict fieldStart placeAt judged isThere fieldValue valueBy valueIn valued footer made barLine butLast sheetOf written readTo kindsIn followersFrom stepped kindsBy someIs mayHead headsIn lastOf parentOf childrenFrom parentEntry entriesFrom indexedBy listBy indexed listed parted textdata nextOf givenOf stopAt linesFrom sheetFrom doubled fieldOf textOf exportOf exported computedThrough imported
+unfolding computed refusals neighbours steps p0012 p0181 p0133 p0134 p0138 p0164 sameDate pointAt besideFile monthEnds commaText newerSubject lent copies given expected bytesBefore behind joined onto records fields field extent turned holds words addRecord checksum checksumOf minus unsigned plain intForm intValue decForm decValue spelled decimalIn decimal leap daysIn isDay isDate isTime textForm bolForm periodRange form range valueOf widthRight filled fieldAnswer judgedAs fieldJudged keyOrder numberOrder textOrder digitsOrder wholeOrder among find flowNumber isDigit isText fieldFault fieldsFault lastKind keyWith keyBefore placeFault shapeFault keyFault footerFault kindFault fault checkedFrom ended judgedBy asked usual judgedFor fieldStart placeAt judged isThere fieldValue valueAt valueBy valueIn valued footer made barLine butLast sheetOf writtenBy written readTo kindsIn followersFrom stepped kindsBy someIs mayHead headsIn lastOf parentOf childrenFrom parentEntry entriesFrom indexedBy listBy indexed listed parted textdata nextOf givenOf stopAt linesFrom sheetFrom doubled fieldOf textOf exportOf exported computedThrough imported
 computed-right = refl
 
 unfoldable pub table : List Case

@@ -95,7 +95,7 @@ besideFile =
     ∷ indexing "P0181002" gs7File (lent 5) (refused 19 0 0 0) (lent 5)
     ∷ indexing "P0181002" gs7File [] (refused 19 0 0 0) []
     -- an entry's parent is itself where it has none, and its children are those up to the next of its kind
-    ∷ indexing "P0133001" sb1File (lent 3) (accepted 8 3) (entry 2 42 1 0 ∷ entry 3 66 2 2 ∷ entry 6 118 3 1 ∷ [])
+    ∷ indexing "P0133001 533" sb1File (lent 3) (accepted 8 3) (entry 2 42 1 0 ∷ entry 3 66 2 2 ∷ entry 6 118 3 1 ∷ [])
     ∷ indexing "P0134001" (lines sb2s) (lent 3) (accepted 5 2) (entry 2 42 1 1 ∷ entry 4 83 2 0 ∷ lent 1)
     ∷ indexing "P0134001" (unended sb2s) (lent 2) (accepted 5 2) (entry 2 42 1 1 ∷ entry 4 83 2 0 ∷ [])
     ∷ indexing "P0164001" subFile (lent 2) (accepted 7 2) (entry 2 42 1 2 ∷ entry 5 122 2 1 ∷ [])
@@ -103,7 +103,7 @@ besideFile =
     ∷ indexing "P0138001" ta2File (lent 2) (accepted 4 0) (lent 2)
     ∷ indexing "P0138001" ta2File [] (accepted 4 0) []
     ∷ indexing "P0012001" hdrFile (lent 1) (accepted 4 0) (lent 1)
-    ∷ indexing "P0133001" (lines ("ZHD|P0133001|Z|SVAA|Z|POOL|20240105120000" ∷ "ZPT|2|89220381" ∷ [])) [] (accepted 2 0) []
+    ∷ indexing "P0133001 533" (lines ("ZHD|P0133001|Z|SVAA|Z|POOL|20240105120000" ∷ "ZPT|2|89220381" ∷ [])) [] (accepted 2 0) []
     -- the reader's refusals come first, and the list is as it was
     ∷ indexing "P0182002" gs7File [] (refused 1 0 0 0) []
     ∷ indexing "P0181002" (lines gs7s ++ lines ("ZPT|12|139023188" ∷ [])) (lent 2) (refused 13 12 3 217) (lent 2)

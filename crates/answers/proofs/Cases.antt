@@ -11,6 +11,7 @@ use Rattle.checksum.specs.Checksum.{checksumOf}
 use Rattle.field.specs.Judge.{Marked, fieldJudged}
 use Rattle.field.specs.Judge as field
 use Rattle.field.specs.declared.FieldType.{FieldType}
+use Rattle.flow.specs.Editions.{asked}
 use Rattle.flow.proofs.Stepped.{Stepped, stepped}
 use Rattle.judge.specs.File.{judged, refused}
 use Rattle.judge.specs.File as judge
@@ -61,7 +62,7 @@ pub data Said : Type 0 where
 
 -- a call, and after it what the papers say
 pub data Case : Type 0 where
-  -- a flow and a file
+  -- the words that ask for a flow, and a file
   judging : String → List ℕ → judge.Reply → Case
   -- a flow, a sheet and a lent output
   writing : String → List ℕ → List ℕ → sheet.Reply → List ℕ → Case
@@ -88,16 +89,16 @@ transferred answer result old = ofSheet (paper answer) (output answer result old
 
 -- the answer by the definitions; import's by the walk, which `csv:Computed.computed-right` shows to be the only one that meets its promise
 unfoldable pub given : Case → Said
-given (judging flow f r) = ofFile (judged (bytes flow) f)
-given (writing flow s old r new) = transferred (written (bytes flow) s (length old)) (made s) old
-given (reading flow f old r new) = transferred (readTo (bytes flow) f (length old)) (sheetOf f) old
-given (asking flow f n k r) = ofValue (valued (bytes flow) f n k)
+given (judging flow f r) = ofFile (judged (asked (bytes flow)) f)
+given (writing flow s old r new) = transferred (written (asked (bytes flow)) s (length old)) (made s) old
+given (reading flow f old r new) = transferred (readTo (asked (bytes flow)) f (length old)) (sheetOf f) old
+given (asking flow f n k r) = ofValue (valued (asked (bytes flow)) f n k)
 given (ofType t m s r) = ofField (fieldJudged t m (bytes s))
 given (summing s n) = ofSum (checksumOf s)
-given (stepping flow kinds r) = ofStep (stepped (bytes flow) (bytes kinds))
-given (exporting flow f old r new) = transferred (exported (bytes flow) f (length old)) (exportOf f) old
+given (stepping flow kinds r) = ofStep (stepped (asked (bytes flow)) (bytes kinds))
+given (exporting flow f old r new) = transferred (exported (asked (bytes flow)) f (length old)) (exportOf f) old
 given (importing text old r new) = transferred (imported text (length old)) (sheetFrom atLine text) old
-given (indexing flow f old r new) = ofIndex (indexed (bytes flow) f (length old)) (listed (bytes flow) f old)
+given (indexing flow f old r new) = ofIndex (indexed (asked (bytes flow)) f (length old)) (listed (asked (bytes flow)) f old)
 
 -- the answer by the papers
 unfoldable pub expected : Case → Said

@@ -36,7 +36,7 @@ commaText =
     exporting "P0138001" (lines example) (room 75) (done 4 75) exampleText
     ∷ exporting "P0138001" (unended example) (room 77) (done 4 75) (exampleText ++ room 2)
     -- quoted just where there is a comma or a quotation mark, which is doubled
-    ∷ exporting "P0133001" marks (room 165) (done 7 165) marksText
+    ∷ exporting "P0133001 533" marks (room 165) (done 7 165) marksText
     -- 17 by one byte, and none of the output is touched; the reader's refusals come first
     ∷ exporting "P0138001" (lines example) (room 74) (refused 17 0 0 0) (room 74)
     ∷ exporting "P0138001" (lines ("ZHD|P0138001|G|SVAA|Z|POOL|20240105120000" ∷ "SUB|B|||20231231|M" ∷ "TA2|1.0250" ∷ "ZPT|4|812996688" ∷ [])) [] (refused 13 4 3 78) []

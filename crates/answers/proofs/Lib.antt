@@ -14,4 +14,5 @@ pub mod PointAt
 pub mod BesideFile
 pub mod MonthEnds
 pub mod CommaText
+pub mod NewerSubject
 pub mod Answers

@@ -12,13 +12,14 @@ use Rattle.record.specs.Records.{onto, records, fields, field, extent, holds}
 use Rattle.place.specs.Places.{fieldStart, placeAt}
 use Rattle.layout.specs.Layout.{find}
 use Rattle.flow.specs.Flows.{flowNumber}
+use Rattle.flow.specs.Editions.{usual, asked}
 use Rattle.fault.specs.Record.{placeFault, kindFault}
 use Rattle.judge.specs.Record.{fault}
-use Rattle.judge.specs.File.{checkedFrom, judgedBy, verdict, judged, refused}
-use Rattle.value.specs.Value.{valueIn, valued}
+use Rattle.judge.specs.File.{checkedFrom, judgedBy, judgedFor, judged, refused}
+use Rattle.value.specs.Value.{valueBy, valueIn, valued}
 use Rattle.value.specs.Value as ofValue
 use Rattle.sheet.specs.Sheets.{barLine}
-use Rattle.sheet.specs.Write.{written}
+use Rattle.sheet.specs.Write.{writtenBy, written}
 use Rattle.sheet.specs.Write as ofSheet
 use Rattle.sheet.specs.Read.{readTo}
 use Rattle.answers.proofs.Cases.{copies, copies-length, Case, judging, writing, reading, asking, given, expected, Right}
@@ -37,6 +38,11 @@ limitsOf feeds letters rest sheetFeeds bars sheetRest =
     -- 1 and 2
     ∷ judging "P0138002" feeds (refused 1 0 0 0)
     ∷ writing "P0138002" sheetFeeds [] (ofSheet.refused 1 0 0 0) []
+    -- 21 and 2
+    ∷ judging "P0138001 712" feeds (refused 21 0 0 0)
+    ∷ reading "P0138001 712" feeds [] (ofSheet.refused 21 0 0 0) []
+    ∷ asking "P0133001 712" feeds 1 1 (ofValue.refused 21 0 0 0)
+    ∷ writing "P0133001 712" sheetFeeds [] (ofSheet.refused 21 0 0 0) []
     -- 2 and 3, in the writer 2 and 16
     ∷ judging "P0138001" letters (refused 2 0 0 0)
     ∷ writing "P0138001" bars [] (ofSheet.refused 2 0 0 0) []
@@ -55,7 +61,7 @@ module _ (feeds letters rest sheetFeeds bars sheetRest : List ℕ) where
       → length bars ≡ 1048001
       → length sheetRest ≡ 1047998
       → Right (limitsOf feeds letters rest sheetFeeds bars sheetRest)
-  unfolding given expected limitsOf onto records fields field extent holds fieldStart placeAt find flowNumber placeFault kindFault fault checkedFrom judgedBy verdict judged valueIn valued barLine written readTo
+  unfolding given expected limitsOf onto records fields field extent holds fieldStart placeAt find flowNumber placeFault kindFault fault checkedFrom judgedBy asked usual judgedFor judged valueBy valueIn valued barLine writtenBy written readTo
   by-length a b c d e f = rw (a, b, c, d, e, f, one-at-least (length (records rest)), one-at-least (length (records sheetRest))) refl
 
 -- with line feeds, letters and bars

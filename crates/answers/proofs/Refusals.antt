@@ -101,7 +101,7 @@ refusals =
     ∷ judging "P0138001" (bytes "ZHD|P0138001|G|SVAA|Z|POOL|20240105120000\r\n") (refused 8 1 7 27)
     -- 9 range; NULL is no word to be sent
     ∷ judging "P0138001" (lines (zhd ∷ "SUB|B|||20231232|M" ∷ [])) (refused 9 2 5 50)
-    ∷ judging "P0133001" (lines (zhd33 ∷ "SB1|H|M|ABCDEFGH|20231231|M" ∷ "CM1|NULL|1|1.0|1" ∷ [])) (refused 9 3 2 74)
+    ∷ judging "P0133001 533" (lines (zhd33 ∷ "SB1|H|M|ABCDEFGH|20231231|M" ∷ "CM1|NULL|1|1.0|1" ∷ [])) (refused 9 3 2 74)
     -- 10 fixed value differs, null field filled
     ∷ judging "P0138001" (lines (zhd ∷ "SUB|C|||20231231|M" ∷ [])) (refused 10 2 2 46)
     ∷ judging "P0138001" (lines (zhd ∷ "SUB|B||X|20231231|M" ∷ [])) (refused 10 2 4 49)
@@ -126,7 +126,7 @@ refusals =
     ∷ judging "P0012001" (lines (zhd12 ∷ zpd ∷ hdr ∷ "ZPT|4|1497044334" ∷ [])) (accepted 4)
     ∷ judging "P0181002" (unended (zhd81 ∷ gs7 ∷ "ZPT|3|526275177" ∷ [])) (refused 15 3 0 49)
     ∷ judging "P0181002" (lines (zhd81 ∷ gs7 ∷ "ZPT|3|526275177" ∷ [])) (accepted 3)
-    ∷ judging "P0133001" (unended (zhd33 ∷ "ZPT|2|89220381" ∷ [])) (accepted 2)
+    ∷ judging "P0133001 533" (unended (zhd33 ∷ "ZPT|2|89220381" ∷ [])) (accepted 2)
     ∷ judging "P0134001" (unended ("ZHD|P0134001|Z|SVAA|Z|POOL|20240105120000" ∷ "ZPT|2|38888733" ∷ [])) (accepted 2)
     ∷ judging "P0138001" (unended (zhd ∷ sub ∷ ta2 ∷ "ZPT|4|812996689" ∷ [])) (accepted 4)
     ∷ judging "P0164001" (unended (zhd64 ∷ "ZPT|2|38561048" ∷ [])) (accepted 2)

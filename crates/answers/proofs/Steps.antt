@@ -4,7 +4,8 @@ use Prim.Native.String.{String}
 use mathlib.Core.Bool.{true, false}
 use mathlib.Core.List.{List, [], _∷_, map}
 use Rattle.text.specs.Characters.{bytes}
-use Rattle.flow.proofs.Stepped.{Stepped, noFlow, stopped, through}
+use Rattle.place.specs.Places.{whole}
+use Rattle.flow.proofs.Stepped.{Stepped, refused, stopped, through}
 use Rattle.answers.proofs.Cases.{Case, stepping}
 
 -- the list is not complete, and these kinds may follow
@@ -18,7 +19,7 @@ complete = through [] true
 unfoldable pub steps : List Case
 steps =
     -- 1 no such flow
-    stepping "P0138002" "ZHD" noFlow
+    stepping "P0138002" "ZHD" (refused (whole 1))
     -- a kind foreign to the flow, or cut short, stops it; the first stop counts
     ∷ stepping "P0138001" "ZHDGSP" (stopped 2)
     ∷ stepping "P0138001" "ZHDSU" (stopped 2)

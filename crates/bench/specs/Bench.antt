@@ -1,20 +1,35 @@
--- What the bench answers (document 01, "Bench examples"; document 02, C-12). Assumes nothing.
-use Prim.Native.Nat.{ℕ}
-use mathlib.Core.Bool.{Bool, _&&_}
-use mathlib.Core.List.{List}
-use lib.Dec.{eqb, leb}
-use lib.ListN.{length, getD, take, drop}
+-- What the bench answers (document 01, "Bench examples"; document 02, C-12 and C-16). Assumes nothing.
+use Prim.Native.Nat.{ℕ, _+_}
+use mathlib.Core.Bool.{Bool}
+use mathlib.Core.List.{List, []}
+use lib.Dec.{leb}
+use lib.ListN.{length, getD, drop}
 use Rattle.text.specs.Rules.{must}
-use Rattle.flow.specs.Flows.{held}
+use Rattle.record.specs.Records.{records}
+use Rattle.place.specs.Places.{whole}
+use Rattle.flow.specs.Editions.{Asked, aFlow, noFlow, asked}
 use Rattle.judge.specs.File.{Reply, refused, judged}
 
--- the input begins with eight characters that name a flow, and a line feed
-abbrev pub firstLine : List ℕ → Bool
-firstLine input = leb 9 (length input) && eqb (getD input 8 0) 0x0A && held (take 8 input)
+-- the first line, up to the first line feed
+abbrev pub firstLine : List ℕ → List ℕ
+firstLine input = getD (records input) 0 []
 
--- a bad first line is 1; more than 65,536 bytes of file, behind the first nine, is 2; else the file is judged
+-- it is ended by its line feed
+abbrev pub lineEnded : List ℕ → Bool
+lineEnded input = leb (length (firstLine input) + 1) (length input)
+
+-- its words ask for a flow; one that is not ended asks for none that we hold
+abbrev pub askedBy : List ℕ → Asked
+askedBy input = must (lineEnded input) (noFlow (whole 1)) (asked (firstLine input))
+
+-- the file is all that stands behind it
+abbrev pub fileBehind : List ℕ → List ℕ
+fileBehind input = drop (length (firstLine input) + 1) input
+
+-- a file for what is asked: a refusal of what is asked comes first, then 2 for more than 65,536 bytes; else the file is judged
+abbrev pub benchedFor : Asked → List ℕ → Reply
+benchedFor (noFlow r) file = judged (noFlow r) file
+benchedFor (aFlow fl) file = must (leb (length file) 65536) (refused 2 0 0 0) (judged (aFlow fl) file)
+
 unfoldable pub benched : List ℕ → Reply
-benched input =
-    must (firstLine input) (refused 1 0 0 0)
-    (must (leb (length input) 65545) (refused 2 0 0 0)
-    (judged (take 8 input) (drop 9 input)))
+benched input = benchedFor (askedBy input) (fileBehind input)

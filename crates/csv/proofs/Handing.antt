@@ -7,23 +7,23 @@ use native.Mathlib.Nat.{zero-add}
 use native.Mathlib.Omega.{arith}
 use lib.ListN.{length, take, drop}
 use lib.Seq.{length-take-le}
-use Rattle.record.specs.Records.{records, joined, holds, someHolds, bar}
+use Rattle.record.specs.Records.{records, joined, holds, someHolds}
 use Rattle.record.proofs.Cutting.{neither, records-joined, records-free}
 use Rattle.place.specs.Places.{whole}
 use Rattle.place.specs.declared.Refusal.{Refusal}
-use Rattle.judge.specs.File.{verdict, withPlace, judged}
+use Rattle.flow.specs.Publication.{layoutFor}
+use Rattle.flow.specs.Editions.{Asked}
+use Rattle.judge.specs.File.{judgedFor, judged}
 use Rattle.judge.specs.File as judging
-use Rattle.judge.specs.declared.Verdict.{Verdict}
-use Rattle.judge.specs.declared.Verdict.the-variants as verdicts
 use Rattle.judge.specs.declared.Judged.{Judged}
 use Rattle.judge.specs.declared.Judged.the-variants as files
-use Rattle.judge.proofs.Demand2.{one-reply}
+use Rattle.judge.proofs.Passes.{passes}
+use Rattle.judge.proofs.Demand2.{one-reply, accepted-flow}
 use Rattle.sheet.specs.Sheets.{butLast}
 use Rattle.sheet.specs.Write.{asJudged, fitted, paper}
 use Rattle.sheet.specs.Code.{put}
 use Rattle.sheet.specs.declared.Transfer.the-variants.{Done, Refused}
 use Rattle.sheet.proofs.Handing.{fits-not, fits}
-use Rattle.sheet.proofs.Accepted.{accepted-passes}
 use Rattle.csv.specs.Export.{textOf, rowsOf, exportOf, exported, Exported}
 use Rattle.csv.proofs.Lines.{text-short}
 
@@ -47,16 +47,16 @@ module _ (f : List ℕ) (b : ℕ) (within : b ≤ length f) (front : joined (but
   pub front-short : length f ≤ 1048576 → length (textOf (rowsOf (records (take b f)))) ≤ 9000000
   front-short h = omega (arith, text-short (take b f), length-take-le b f within)
 
-module _ (name f old : List ℕ) where
-  export-is : (v : Judged) → judging.paper v ≡ judged name f → paper (asJudged v (fitted (length old) (exportOf f))) ≡ paper (exported name f (length old))
+module _ (a : Asked) (f old : List ℕ) where
+  export-is : (v : Judged) → judging.paper v ≡ judged a f → paper (asJudged v (fitted (length old) (exportOf f))) ≡ paper (exported a f (length old))
   unfolding exported judged
-  export-is v e = ap (λ (w : Judged). paper (asJudged w (fitted (length old) (exportOf f)))) (one-reply v (withPlace bar f (verdict name f)) e)
+  export-is v e = ap (λ (w : Judged). paper (asJudged w (fitted (length old) (exportOf f)))) (one-reply v (judgedFor a f) e)
 
-  pub export-refused : (r : Refusal) → judging.paper (files.Refused r) ≡ judged name f → Exported name f (Refused r) old old
+  pub export-refused : (r : Refusal) → judging.paper (files.Refused r) ≡ judged a f → Exported a f (Refused r) old old
   export-refused r e = record { says = export-is (files.Refused r) e; leaves = refl }
 
-  module _ (n b : ℕ) (accepts : judging.accepted n ≡ judged name f) (size : b ≡ length (exportOf f)) where
-    pub export-no-room : {r : Refusal} → r ≡ whole 17 → length old < b → Exported name f (Refused r) old old
+  module _ (n b : ℕ) (accepts : judging.accepted n ≡ judged a f) (size : b ≡ length (exportOf f)) where
+    pub export-no-room : {r : Refusal} → r ≡ whole 17 → length old < b → Exported a f (Refused r) old old
     export-no-room z h =
         record {
           says =
@@ -65,7 +65,7 @@ module _ (name f old : List ℕ) where
           leaves = refl;
         }
 
-    pub export-done : (new : List ℕ) → b ≤ length old → new ≡ put old 0 (exportOf f) → Exported name f (Done n b) old new
+    pub export-done : (new : List ℕ) → b ≤ length old → new ≡ put old 0 (exportOf f) → Exported a f (Done n b) old new
     export-done new h e =
         record {
           says =
@@ -74,14 +74,8 @@ module _ (name f old : List ℕ) where
           leaves = e ∙ ap (λ (k : ℕ). exportOf f ++ drop k old) (zero-add (length (exportOf f)) ∙ sym size);
         }
 
--- what an acceptance says
-accepted-go : (f : List ℕ) (v : Verdict) (n : ℕ) → judging.accepted n ≡ judging.paper (withPlace bar f v) → v ≡ verdicts.Accepted n
-accepted-go f (verdicts.Accepted m) n e = cc
-accepted-go f (verdicts.Refused x r g) n e = let z : _≡_ {A = ℕ} 0 1 = cc in absurd (omega arith)
-
-pub accepted-verdict : (name f : List ℕ) (n : ℕ) → judging.accepted n ≡ judged name f → verdict name f ≡ verdicts.Accepted n
-unfolding judged
-accepted-verdict name f n e = accepted-go f (verdict name f) n e
-
-pub accepted-short : (name f : List ℕ) (n : ℕ) → judging.accepted n ≡ judged name f → length f ≤ 1048576
-accepted-short name f n e = accepted-passes name f n (accepted-verdict name f n e) .limit
+-- an accepted file is within the limit
+pub accepted-short : (a : Asked) (f : List ℕ) (n : ℕ) → judging.accepted n ≡ judged a f → length f ≤ 1048576
+accepted-short a f n e =
+    let x = accepted-flow f n a (sym e) in
+    passes (layoutFor (x .0)) f n (x .2) .limit

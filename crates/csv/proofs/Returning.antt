@@ -15,8 +15,9 @@ use Rattle.record.proofs.Runs.{fields-some}
 use Rattle.record.proofs.Turned.{turned-gone, turned-joined}
 use Rattle.number.proofs.Digits.{and-left, and-right}
 use Rattle.checksum.specs.Checksum.{checksum}
-use Rattle.judge.specs.File.{verdict}
-use Rattle.judge.specs.declared.Verdict.the-variants as verdicts
+use Rattle.flow.specs.Editions.{Asked}
+use Rattle.flow.proofs.Proper.{ProperAsked}
+use Rattle.judge.specs.File.{judged, accepted}
 use Rattle.sheet.specs.Sheets.{tab, footer, butLast, barLine, parted, sheetOf}
 use Rattle.sheet.specs.Write.{Reply, done}
 use Rattle.sheet.specs.declared.Transfer.{Transfer}
@@ -24,7 +25,7 @@ use Rattle.sheet.specs.declared.Transfer.the-variants.{Done}
 use Rattle.sheet.proofs.Characters.{textRecord}
 use Rattle.sheet.proofs.AcceptedFiles.{parted-turned}
 use Rattle.sheet.proofs.Accepted.{accepted-passes, accepted-split, accepted-text}
-use Rattle.sheet.proofs.RoundTrip.{same-answer, one-transfer, done-accepts}
+use Rattle.sheet.proofs.RoundTrip.{same-answer, one-handed, done-accepts}
 use Rattle.rfc4180.specs.Rfc.{comma, quote, return, feed, textdata, Inside, Field, Line, Text, linesOf}
 use Rattle.rfc4180.specs.Rfc as rfc
 use Rattle.csv.specs.Export.{quoted, doubled, fieldOf, lineOf, textOf, rowsOf, exportOf, exported, Exported}
@@ -173,14 +174,14 @@ text-long [] = omega arith
 text-long (row ∷ rows) =
     omega (arith, line-long row, text-long rows, length-append (parted tab row) (feed ∷ joined (linesOf rows)), length-append (lineOf row) (return ∷ feed ∷ textOf rows))
 
-module _ (name f : List ℕ) (n : ℕ) (accepts : verdict name f ≡ verdicts.Accepted n) where
+module _ (a : Asked) (proper : ProperAsked a) (f : List ℕ) (n : ℕ) (accepts : judged a f ≡ accepted n) where
   abbrev lines : List (List ℕ)
   lines = butLast (records f)
 
   -- the exported text has a reading: the fields of the file's records
   pub export-reads : Text (exportOf f) (rowsOf lines)
   unfolding exportOf
-  export-reads = text-reads lines (accepted-text name f n accepts)
+  export-reads = text-reads lines (accepted-text a proper f n accepts)
 
   pub export-sheet : joined (linesOf (rowsOf lines)) ≡ sheetOf f
   unfolding sheetOf
@@ -191,8 +192,8 @@ module _ (name f : List ℕ) (n : ℕ) (accepts : verdict name f ≡ verdicts.Ac
       omega (
         arith,
         length-map lines (fields bar),
-        accepted-passes name f n accepts .count,
-        ap length (accepted-split name f n accepts),
+        accepted-passes a proper f n accepts .passed .count,
+        ap length (accepted-split a proper f n accepts),
         length-append lines (footer (length lines + 1) (checksum lines) ∷ []),
       )
 
@@ -210,10 +211,10 @@ module _ (name f : List ℕ) (n : ℕ) (accepts : verdict name f ≡ verdicts.Ac
       rw export-lines at made
 
 -- both in the bytes that are lent: a file exported, and what was written imported
-module _ (name f : List ℕ) (n b : ℕ) (old new : List ℕ) (e : Exported name f (Done n b) old new) where
-  tells : (verdict name f ≡ verdicts.Accepted n) × (b ≡ length (exportOf f))
+module _ (a : Asked) (proper : ProperAsked a) (f : List ℕ) (n b : ℕ) (old new : List ℕ) (e : Exported a f (Done n b) old new) where
+  tells : (judged a f ≡ accepted n) × (b ≡ length (exportOf f))
   unfolding exported
-  tells = done-accepts name f (exportOf f) (length old) n b (sym (same-answer (Done n b) (exported name f (length old)) (e .says)))
+  tells = done-accepts a f (exportOf f) (length old) n b (sym (same-answer (Done n b) (exported a f (length old)) (e .says)))
 
   written : take b new ≡ exportOf f
   written = ap (take b) (e .leaves) ∙ take-at (exportOf f) (drop b old) b (sym (tells .1))
@@ -222,9 +223,9 @@ module _ (name f : List ℕ) (n b : ℕ) (old new : List ℕ) (e : Exported name
       → (answer ≡ done (n - 1) (length (sheetOf f))) × (take (length (sheetOf f)) new′ ≡ sheetOf f)
   text-returns old′ new′ answer short room i =
       let there : Imported (exportOf f) old′ answer new′ = rw written at i in
-      let same = one-imported there (export-import name f n (tells .0) old′ (omega (arith, tells .1)) room) in
+      let same = one-imported there (export-import a proper f n (tells .0) old′ (omega (arith, tells .1)) room) in
       (same .0, ap (take (length (sheetOf f))) (same .1) ∙ take-at (sheetOf f) (drop (length (sheetOf f)) old′) (length (sheetOf f)) refl)
 
 -- only one answer with its bytes meets export's promise
-pub one-exported : (name f : List ℕ) (a b : Transfer) (old new new′ : List ℕ) → Exported name f a old new → Exported name f b old new′ → (a ≡ b) × (new ≡ new′)
-one-exported name f a b old new new′ p q = one-transfer a b (exported name f (length old)) (exportOf f) old new new′ (p .says) (q .says) (p .leaves) (q .leaves)
+pub one-exported : (x : Asked) (f : List ℕ) (a b : Transfer) (old new new′ : List ℕ) → Exported x f a old new → Exported x f b old new′ → (a ≡ b) × (new ≡ new′)
+one-exported x f a b old new new′ p q = one-handed p q

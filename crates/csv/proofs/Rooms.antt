@@ -11,8 +11,9 @@ use Rattle.record.proofs.Cutting.{joined-append}
 use Rattle.record.proofs.Runs.{fields-some}
 use Rattle.record.proofs.Turned.{turned-length}
 use Rattle.checksum.specs.Checksum.{checksum}
-use Rattle.judge.specs.File.{verdict}
-use Rattle.judge.specs.declared.Verdict.the-variants as verdicts
+use Rattle.flow.specs.Editions.{Asked}
+use Rattle.flow.proofs.Proper.{ProperAsked}
+use Rattle.judge.specs.File.{judged, accepted}
 use Rattle.sheet.specs.Sheets.{tab, footer, butLast, parted}
 use Rattle.sheet.proofs.AcceptedFiles.{parted-turned, feed-joined, feed-long}
 use Rattle.sheet.proofs.Accepted.{accepted-split, accepted-some}
@@ -53,13 +54,13 @@ text-room (r ∷ rs) =
     )
 
 -- three times the bytes of an accepted file are enough for its text
-pub export-fits : (name f : List ℕ) (n : ℕ) → verdict name f ≡ verdicts.Accepted n → length (exportOf f) ≤ 3 * length f
+pub export-fits : (a : Asked) → ProperAsked a → (f : List ℕ) (n : ℕ) → judged a f ≡ accepted n → length (exportOf f) ≤ 3 * length f
 unfolding exportOf joined
-export-fits name f n accepts =
+export-fits a proper f n accepts =
     let lines = butLast (records f) in
     let foot = footer (length lines + 1) (checksum lines) in
-    let split = accepted-split name f n accepts in
-    let whole = ap length (sym (feed-joined f (accepted-some name f n accepts)) ∙ ap joined split ∙ joined-append lines (foot ∷ [])) in
+    let split = accepted-split a proper f n accepts in
+    let whole = ap length (sym (feed-joined f (accepted-some a proper f n accepts)) ∙ ap joined split ∙ joined-append lines (foot ∷ [])) in
     omega (arith, text-room lines, whole, length-append (joined lines) (foot ++ 0x0A ∷ []), length-append foot (0x0A ∷ []), feed-long f)
 
 -- a text gives at most one byte more than it has

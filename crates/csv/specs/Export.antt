@@ -6,10 +6,11 @@ use mathlib.Core.List.{List, [], _∷_, _++_, map}
 use lib.Dec.{eqb}
 use lib.ListN.{length}
 use Rattle.record.specs.Records.{records, fields, holds, bar}
-use Rattle.judge.specs.File.{verdict, withPlace}
+use Rattle.flow.specs.Editions.{Asked}
+use Rattle.judge.specs.File.{judgedFor}
 use Rattle.sheet.specs.Sheets.{butLast, parted}
 use Rattle.rfc4180.specs.Rfc.{comma, quote, return, feed}
-use Rattle.sheet.specs.Write.{asJudged, fitted, paper, output}
+use Rattle.sheet.specs.Write.{asJudged, fitted, Handed}
 use Rattle.sheet.specs.declared.Transfer.{Transfer}
 
 -- a field is quoted exactly when it holds a comma or a quotation mark
@@ -43,10 +44,9 @@ unfoldable pub exportOf : List ℕ → List ℕ
 exportOf f = textOf (rowsOf (butLast (records f)))
 
 -- the reader's refusals, with their places in the file, then 17
-unfoldable pub exported : List ℕ → List ℕ → ℕ → Transfer
-exported name f room = asJudged (withPlace bar f (verdict name f)) (fitted room (exportOf f))
+unfoldable pub exported : Asked → List ℕ → ℕ → Transfer
+exported a f room = asJudged (judgedFor a f) (fitted room (exportOf f))
 
--- exporting a file: the answer, and every byte that was lent
-pub record Exported (name f : List ℕ) (answer : Transfer) (old new : List ℕ) : Type 0 where
-  pub says : paper answer ≡ paper (exported name f (length old))
-  pub leaves : new ≡ output answer (exportOf f) old
+-- exporting a file
+abbrev pub Exported : Asked → List ℕ → Transfer → List ℕ → List ℕ → Type 0
+Exported a f answer old new = Handed (exported a f (length old)) (exportOf f) answer old new

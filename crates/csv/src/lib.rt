@@ -12,6 +12,7 @@ ghost use mathlib.Core.List.{List, _∷_, []};
 ghost use Prim.Native.Nat.{ℕ, _+_, _≤_};
 ghost use lib.ListN.{length};
 ghost use Rattle.record.specs.Records.{records, fields, bar};
+ghost use Rattle.flow.specs.Editions.{asked};
 ghost use Rattle.sheet.specs.Code.{put};
 ghost use Rattle.sheet.specs.Write.{paper};
 ghost use Rattle.csv.specs.Export.{quoted as quotedOf, doubled, fieldOf, lineOf, textOf, rowsOf, Exported};
@@ -219,9 +220,9 @@ fn put_text(out: &mut [u8], s: &[u8])
     }
 }
 
-// Exports a file for a flow as text in the lent bytes: any name, any bytes, any room.
+// Exports a file for the flow that the words ask for as text in the lent bytes. Any words, any bytes, any room.
 pub fn export(flow: &[u8], file: &[u8], out: &mut [u8]) -> Transfer
-    ensures { λ a. ⌜ Exported (now (flow .entry)) (now (file .entry)) a (now (out .entry)) (now (out .exit)) ⌝ }
+    ensures { λ a. ⌜ Exported (asked (now (flow .entry))) (now (file .entry)) a (now (out .entry)) (now (out .exit)) ⌝ }
 {
     match judge::judge(flow, file) {
         Judged::Refused(refusal) => Transfer::Refused(refusal),

@@ -8,8 +8,8 @@ use borrow.Author.Tests.{leb-true}
 use lib.Dec.{leb}
 use lib.ListN.{length}
 use Rattle.text.specs.Rules.{must}
-use Rattle.flow.specs.Flows.{held}
-use Rattle.judge.specs.File.{judgedBy, verdict, withPlace, paper, judged, accepted}
+use Rattle.flow.specs.Editions.{Asked, aFlow, noFlow}
+use Rattle.judge.specs.File.{judgedBy, withPlace, judgedFor, paper, judged, accepted}
 use Rattle.judge.specs.declared.Verdict.{Verdict}
 use Rattle.judge.specs.declared.Verdict.the-variants.{Refused}
 use Rattle.drill.specs.Drill.{Counted}
@@ -18,14 +18,14 @@ pub one-more : {a b c d : ℕ} (good : Bool) → Counted a b good c d → c + d 
 one-more true k = omega (arith, k .refusals, k .passes)
 one-more false k = omega (arith, k .refusals, k .passes)
 
--- an answer that passed the tests for 1 and 2 passed the second of them
-second-passed : (sep : ℕ) (f : List ℕ) (h u : Bool) (later : Verdict) (n : ℕ) →
-    paper (withPlace sep f (must h (Refused 1 0 0) (must u (Refused 2 0 0) later))) ≡ accepted n → u ≡ true
-second-passed sep f true true later n e = refl
-second-passed sep f true false later n e = cc
-second-passed sep f false u later n e = cc
+-- an answer that passed the test for 2
+limit-passed : (sep : ℕ) (f : List ℕ) (u : Bool) (later : Verdict) (n : ℕ) →
+    paper (withPlace sep f (must u (Refused 2 0 0) later)) ≡ accepted n → u ≡ true
+limit-passed sep f true later n e = refl
+limit-passed sep f false later n e = cc
 
 -- a good file is within the limit
-pub good-fits : (flow f : List ℕ) (n : ℕ) → judged flow f ≡ accepted n → length f ≤ 1048576
-unfolding judged verdict judgedBy
-good-fits flow f n e = leb-true _ _ (second-passed _ f (held flow) (leb (length f) 1048576) _ n e)
+pub good-fits : (a : Asked) (f : List ℕ) (n : ℕ) → judged a f ≡ accepted n → length f ≤ 1048576
+unfolding judged judgedFor judgedBy
+good-fits (aFlow fl) f n e = leb-true _ _ (limit-passed _ f (leb (length f) 1048576) _ n e)
+good-fits (noFlow r) f n e = let z : _≡_ {A = ℕ} 0 1 = cc in absurd (omega arith)

@@ -4,6 +4,7 @@ use mathlib.Core.Path.{_≡_}
 use mathlib.Core.Bool.{Bool, true, false, cond}
 use mathlib.Core.List.{List}
 use lib.ListN.{getD, set}
+use Rattle.flow.specs.Editions.{Asked}
 use Rattle.judge.specs.File.{Reply, accepted, refused, judged}
 
 -- an answer that accepts
@@ -11,9 +12,9 @@ abbrev pub accepts : Reply → Bool
 accepts (accepted n) = true
 accepts (refused number r f place) = false
 
--- a file passes where it is accepted
-unfoldable pub passes : List ℕ → List ℕ → Bool
-passes flow file = accepts (judged flow file)
+-- a file passes where it is accepted for what is asked
+unfoldable pub passes : Asked → List ℕ → Bool
+passes a file = accepts (judged a file)
 
 -- the byte that is d above b, past the highest counted on from 0
 abbrev pub other : ℕ → ℕ → ℕ

@@ -5,6 +5,7 @@ use stream::tell_number;
 ghost use mathlib.Core.Path.{_≡_};
 ghost use Prim.Native.Nat.{_+_, _*_, _^_, _≤_, _<_};
 ghost use lib.ListN.{length};
+ghost use Rattle.flow.specs.Editions.{asked};
 ghost use Rattle.drill.specs.Drill.{passes, other as otherOf, spoilt, Counted};
 
 // Every how many places the file is spoiled, and by every how many of the other bytes.
@@ -38,7 +39,7 @@ pub fn plan_for(size: usize) -> Plan
 }
 
 fn accepts(flow: &[u8], file: &[u8]) -> bool
-    ensures { λ r. ⌜ r ≡ passes (now (flow .entry)) (now (file .entry)) ⌝ }
+    ensures { λ r. ⌜ r ≡ passes (asked (now (flow .entry))) (now (file .entry)) ⌝ }
 {
     match judge::judge(flow, file) {
         Judged::Accepted(_) => true,
@@ -82,7 +83,7 @@ fn spoil(flow: &[u8], file: &mut [u8], at: usize, d: usize, t: Tally) -> Tally
     requires { ⌜ at < length (now file) ⌝ }
     requires { ⌜ t .refused + t .passed < 2 ^ 63 ⌝ }
     ensures { λ _. ⌜ now (file .exit) ≡ now (file .entry) ⌝ }
-    ensures { λ r. ⌜ Counted (t .refused) (t .passed) (passes (now (flow .entry)) (spoilt (now (file .entry)) at d)) (r .refused) (r .passed) ⌝ }
+    ensures { λ r. ⌜ Counted (t .refused) (t .passed) (passes (asked (now (flow .entry))) (spoilt (now (file .entry)) at d)) (r .refused) (r .passed) ⌝ }
 {
     let kept = file[at];
     let b = other(kept, d);

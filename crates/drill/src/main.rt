@@ -73,7 +73,7 @@ fn drill_file(flow: &[u8], file: &mut [u8]) -> Ending {
     }
 }
 
-// drill FLOW FILE
+// drill FLOW FILE. FLOW goes to the judge as it stands: a name, or a name, a space and an edition.
 fn start(room: &mut [u8]) -> Ending {
     if os::arg_count() != 3 {
         stream::complain(b"drill", b"usage: drill FLOW FILE");

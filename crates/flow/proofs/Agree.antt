@@ -1,4 +1,4 @@
--- Each held flow's table agrees with its grammar, by one computed test over all of them. Assumes nothing.
+-- The rows of a flow's layout: their names, their number and the last of them. Assumes nothing.
 use Prim.Native.Nat.{ℕ, zero, suc, _-_, _≤_}
 use mathlib.Core.Path.{_≡_, refl, sym, ap, _∙_}
 use mathlib.Core.Bool.{Bool, true, false, _&&_}
@@ -15,32 +15,6 @@ use Rattle.text.proofs.Tests.{and-left, and-right, is-true}
 use Rattle.flow.specs.Publication.{Flow, PublishedKind, names, rowFor, layoutFor}
 use Rattle.flow.specs.Flows.{flows, flowAt, p0012}
 use Rattle.flow.specs.ByTable.{kindNames}
-
--- a flow's table agrees with its grammar, and has a kind
-abbrev tableAgrees : Flow → Bool
-tableAgrees f = agrees (names (f .kinds)) (mayFollow (layoutFor f)) (f .grammar)
-
-abbrev hasKind : Flow → Bool
-hasKind f = leb 1 (length (names (f .kinds)))
-
-abbrev bothTests : Flow → Bool
-bothTests f = tableAgrees f && hasKind f
-
--- the test passes for all six
-all-agree : T (all bothTests flows)
-unfolding agrees among
-all-agree = tt
-
-agrees-at : (n : ℕ) → T (bothTests (flowAt n))
-agrees-at n = all-at bothTests p0012 flows all-agree (and-left (bothTests p0012) (all bothTests (drop 1 flows)) all-agree) (n - 1)
-
--- the table of flow number n agrees with its grammar
-pub tables-agree : (n : ℕ) → agrees (names (flowAt n .kinds)) (mayFollow (layoutFor (flowAt n))) (flowAt n .grammar) ≡ true
-tables-agree n = is-true (tableAgrees (flowAt n)) (and-left (tableAgrees (flowAt n)) (hasKind (flowAt n)) (agrees-at n))
-
--- it has a kind
-pub some-kind : (n : ℕ) → 1 ≤ length (names (flowAt n .kinds))
-some-kind n = leb→le 1 (length (names (flowAt n .kinds))) (and-right (tableAgrees (flowAt n)) (hasKind (flowAt n)) (agrees-at n))
 
 -- the names of the layout's kinds are the published ones
 pub names-are : (f : Flow) → kindNames (layoutFor f) ≡ names (f .kinds)

@@ -4,9 +4,11 @@ pub mod WalkLaws
 pub mod Listing
 pub mod Followers
 pub mod Agree
+pub mod Proper
+pub mod Asking
 pub mod Chosen
 pub mod Demand3
 pub mod Answers
 pub mod OneStep
-pub mod Examples
 pub mod Stepped
+pub mod Examples

@@ -1,17 +1,18 @@
 -- No second answer of the step meets its contract. Assumes nothing.
 use Prim.Native.Nat.{ℕ, suc, _*_}
 use mathlib.Core.Path.{_≡_, refl, sym, ap, _∙_}
-use mathlib.Core.Bool.{Bool, true, false, false≢true}
+use mathlib.Core.Bool.{Bool, true, false}
 use mathlib.Core.List.{List, _∷_, [], _++_}
 use lib.Dec.{T}
 use lib.ListN.{length, drop}
 use Rattle.text.proofs.Inverse.{same-said}
+use Rattle.place.specs.Places.{refusal}
 use Rattle.grammar.specs.Right.{Completes}
 use Rattle.grammar.proofs.Walks.{one-place, stopped-or-begun}
 use Rattle.flow.specs.declared.StepAnswer.{StepAnswer}
 use Rattle.flow.specs.declared.StepAnswer.the-variants.{Refused, Stopped, Through}
 use Rattle.flow.specs.Publication.{Flow}
-use Rattle.flow.specs.Flows.{flowNamed}
+use Rattle.flow.specs.Editions.{Asked, aFlow, noFlow}
 use Rattle.flow.specs.Step.{kindsIn, endToEnd, StoppedAt, WentThrough, Reply, refused, stopped, through, paper, ReplyRight, StepRight}
 use Rattle.flow.proofs.Chosen.{chosen-one}
 
@@ -44,36 +45,31 @@ module _ (f : Flow) (ks : List (List ℕ)) (old : List ℕ) where
       (λ i. through (c i) (t i), v .listed .written ∙ (λ i. endToEnd (e i) ++ drop (3 * c i) old) ∙ sym (w .listed .written))
 
 -- two answers in document 01's terms that are right are the same, and so are the lent bytes after them
-pub one-reply : (name bytes old : List ℕ) (a b : Reply) (new other : List ℕ)
-    → ReplyRight name bytes a old new → ReplyRight name bytes b old other → (a ≡ b) × (new ≡ other)
-one-reply name bytes old (refused m r f p) (refused n q g o) new other s t = (s .1 ∙ sym (t .1), s .2 ∙ sym (t .2))
-one-reply name bytes old (refused m r f p) (stopped q) new other s t = absurd (false≢true (sym (s .0) ∙ t .0))
-one-reply name bytes old (refused m r f p) (through n b) new other s t = absurd (false≢true (sym (s .0) ∙ t .0))
-one-reply name bytes old (stopped p) (refused n q g o) new other s t = absurd (false≢true (sym (t .0) ∙ s .0))
-one-reply name bytes old (stopped p) (stopped q) new other s t =
-    one-stop (flowNamed name) (kindsIn bytes) old p q new other (s .1) (t .1)
-one-reply name bytes old (stopped p) (through n b) new other s t =
-    absurd (stop-or-go (flowNamed name) (kindsIn bytes) old p n b new other (s .1) (t .1))
-one-reply name bytes old (through m a) (refused n q g o) new other s t = absurd (false≢true (sym (t .0) ∙ s .0))
-one-reply name bytes old (through m a) (stopped q) new other s t =
-    absurd (stop-or-go (flowNamed name) (kindsIn bytes) old q m a other new (t .1) (s .1))
-one-reply name bytes old (through m a) (through n b) new other s t =
-    one-way (flowNamed name) (kindsIn bytes) old m n a b new other (s .1) (t .1)
+pub one-reply : (x : Asked) (bytes old : List ℕ) (a b : Reply) (new other : List ℕ)
+    → ReplyRight x bytes a old new → ReplyRight x bytes b old other → (a ≡ b) × (new ≡ other)
+one-reply (noFlow x) bytes old a b new other s t = (s .0 ∙ sym (t .0), s .1 ∙ sym (t .1))
+one-reply (aFlow f) bytes old (refused m r k p) b new other s t = absurd s
+one-reply (aFlow f) bytes old (stopped p) (refused n q g o) new other s t = absurd t
+one-reply (aFlow f) bytes old (through m a) (refused n q g o) new other s t = absurd t
+one-reply (aFlow f) bytes old (stopped p) (stopped q) new other s t = one-stop f (kindsIn bytes) old p q new other s t
+one-reply (aFlow f) bytes old (stopped p) (through n b) new other s t = absurd (stop-or-go f (kindsIn bytes) old p n b new other s t)
+one-reply (aFlow f) bytes old (through m a) (stopped q) new other s t = absurd (stop-or-go f (kindsIn bytes) old q m a other new t s)
+one-reply (aFlow f) bytes old (through m a) (through n b) new other s t = one-way f (kindsIn bytes) old m n a b new other s t
 
 -- the answer that says this
 abbrev said : Reply → StepAnswer
-said (refused n r f place) = Refused n
+said (refused n r f place) = Refused (refusal n r f place)
 said (stopped p) = Stopped p
 said (through m a) = Through m a
 
 said-paper : (a : StepAnswer) → said (paper a) ≡ a
-said-paper (Refused n) = refl
+said-paper (Refused r) = refl
 said-paper (Stopped p) = refl
 said-paper (Through m a) = refl
 
 -- so two answers of the code that meet the contract are the same
-pub one-step : (name bytes old : List ℕ) (a b : StepAnswer) (new other : List ℕ)
-    → StepRight name bytes a old new → StepRight name bytes b old other → (a ≡ b) × (new ≡ other)
-one-step name bytes old a b new other s t =
-    let one = one-reply name bytes old (paper a) (paper b) new other s t in
+pub one-step : (x : Asked) (bytes old : List ℕ) (a b : StepAnswer) (new other : List ℕ)
+    → StepRight x bytes a old new → StepRight x bytes b old other → (a ≡ b) × (new ≡ other)
+one-step x bytes old a b new other s t =
+    let one = one-reply x bytes old (paper a) (paper b) new other s t in
     (same-said paper said said-paper a b (one .0), one .1)

@@ -5,10 +5,13 @@ use mathlib.Core.Bool.{Bool, true, false, cond}
 use mathlib.Core.List.{List, [], _∷_}
 use lib.ListN.{drop}
 use lib.Seq.{sets}
-use Rattle.layout.specs.Layout.{KindRow, Layout, rowNames, mayFollow}
+use Rattle.layout.specs.Layout.{KindRow, Layout, rowNames, mayFollow, isFooter}
 use Rattle.grammar.specs.Table.{tableWalk}
 use Rattle.grammar.specs.Walk as grammar
 use Rattle.flow.specs.Publication.{Flow, names, layoutFor}
+use Rattle.flow.specs.Step.{kindsIn, Lists}
+use Rattle.flow.specs.declared.StepAnswer.{StepAnswer}
+use Rattle.flow.specs.declared.StepAnswer.the-variants as answers
 use Rattle.flow.specs.declared.Walked.{Walked}
 use Rattle.flow.specs.declared.Walked.the-variants.{Stopped, Through}
 
@@ -47,3 +50,10 @@ followersOf f r = followersBy (layoutFor f) r
 abbrev pub PutIf : Bool → List ℕ → ℕ → ℕ → List ℕ → List ℕ → Type 0
 PutIf true name count after old new = (after ≡ count + 1) × (new ≡ sets old (3 * count) name)
 PutIf false name count after old new = (after ≡ count) × (new ≡ old)
+
+-- a layout is stepped through kinds, and nothing is refused: by where the walk came to, what is answered and every byte that was lent
+abbrev pub SteppedBy : Layout → List ℕ → StepAnswer → List ℕ → List ℕ → Type 0
+SteppedBy l kinds (answers.Refused r) old new = ⊥
+SteppedBy l kinds (answers.Stopped place) old new = (Stopped place ≡ walkBy l (kindsIn kinds)) × (new ≡ old)
+SteppedBy l kinds (answers.Through count complete) old new =
+    (last : ℕ) × (Through last ≡ walkBy l (kindsIn kinds)) × Lists (followersBy l last) count old new × (complete ≡ isFooter l last)

@@ -1,7 +1,7 @@
--- The six flows (document 01, "The six flows"), line by line. Assumes nothing.
+-- The six flows (document 01, "The six flows"), line by line, and what edition 711 has anew (document 02, C-16). Assumes nothing.
 use Prim.Native.Nat.{ℕ, _-_}
 use mathlib.Core.Bool.{Bool, true, false, not}
-use mathlib.Core.List.{List, [], _∷_, map}
+use mathlib.Core.List.{List, [], _∷_, _++_, map}
 use lib.Dec.{eqb}
 use lib.ListN.{getD}
 use Rattle.text.specs.Places.{placeOf}
@@ -65,20 +65,34 @@ p0181 =
       feed = true;
     }
 
--- P0133001: ZHD, any number of SB1 sets (SB1 and any number of CM1), ZPT
-abbrev pub p0133 : Flow
-p0133 =
+-- SB1: market sector =H, role =M, id text(8), date, periodicity =M
+abbrev pub sb1 : PublishedKind
+sb1 = kind SB1 (is (text 1) H ∷ is (text 1) M ∷ text 8 ∷ date ∷ is (text 1) M ∷ [])
+
+-- in edition 711 SB1 is role, id, date, periodicity
+abbrev pub sb1In711 : PublishedKind
+sb1In711 = kind SB1 (is (text 1) M ∷ text 8 ∷ date ∷ is (text 1) M ∷ [])
+
+-- P0133001: ZHD, any number of SB1 sets (SB1 and any number of CM1), ZPT; all but SB1 is the same in each edition
+abbrev pub p0133With : PublishedKind → Flow
+p0133With subject =
     record {
       name = P0133001;
       grammar = inOrder (Kind ZHD ∷ AnyNumber (Then (Kind SB1) (AnyNumber (Kind CM1))) ∷ Kind ZPT ∷ []);
       kinds =
           header P0133001 (is (text 1) Z) (is (text 1) Z)
-          ∷ kind SB1 (is (text 1) H ∷ is (text 1) M ∷ text 8 ∷ date ∷ is (text 1) M ∷ [])
+          ∷ subject
           ∷ kindWithin CM1 (optional (text 2) ∷ int 7 ∷ dec 4 1 ∷ int 7 ∷ []) SB1
           ∷ footer
           ∷ [];
       feed = false;
     }
+
+abbrev pub p0133 : Flow
+p0133 = p0133With sb1
+
+abbrev pub p0133In711 : Flow
+p0133In711 = p0133With sb1In711
 
 -- P0134001: the same with SB2 and CM2
 abbrev pub p0134 : Flow
@@ -125,9 +139,13 @@ p0164 =
       feed = false;
     }
 
--- the flows that we hold
+-- the flows that we hold, each as it is in edition 533
 abbrev pub flows : List Flow
 flows = p0012 ∷ p0181 ∷ p0133 ∷ p0134 ∷ p0138 ∷ p0164 ∷ []
+
+-- with those that have a layout of their own in edition 711
+abbrev pub flowsAndEditions : List Flow
+flowsAndEditions = flows ++ p0133In711 ∷ []
 
 -- the number of the flow of this name, from 1; 0 where we hold none
 unfoldable pub flowNumber : List ℕ → ℕ
@@ -137,10 +155,10 @@ flowNumber name = placeOf name 1 (map (λ (f : Flow). f .name) flows)
 abbrev pub held : List ℕ → Bool
 held name = not (eqb (flowNumber name) 0)
 
--- flow number n
+-- flow number n; number 7 is P0133001 in edition 711
 abbrev pub flowAt : ℕ → Flow
-flowAt n = getD flows (n - 1) p0012
+flowAt n = getD flowsAndEditions (n - 1) p0012
 
--- the flow of this name, where we hold one
+-- the flow of this name in edition 533, where we hold one
 abbrev pub flowNamed : List ℕ → Flow
 flowNamed name = flowAt (flowNumber name)

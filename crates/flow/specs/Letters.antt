@@ -1,4 +1,4 @@
--- The names of the kinds and flows, and the letters that are fixed values, as bytes. Assumes nothing.
+-- The names of the kinds, flows and editions, and the letters that are fixed values, as bytes. Assumes nothing.
 use Prim.Native.Nat.{ℕ}
 use mathlib.Core.List.{List}
 use Rattle.text.specs.Characters.{bytes}
@@ -68,6 +68,13 @@ P0138001 = bytes "P0138001"
 
 abbrev pub P0164001 : List ℕ
 P0164001 = bytes "P0164001"
+
+-- the editions
+abbrev pub E533 : List ℕ
+E533 = bytes "533"
+
+abbrev pub E711 : List ℕ
+E711 = bytes "711"
 
 abbrev pub B : List ℕ
 B = bytes "B"

@@ -1,6 +1,8 @@
 pub mod Letters
 pub mod Publication
 pub mod Flows
-pub mod ByTable
+pub mod Editions
+pub mod Proper
 pub mod Step
+pub mod ByTable
 pub mod Demand3

@@ -1,10 +1,12 @@
 -- How a flow is published: its name, its grammar as nested sets, the fields and keys of its kinds, and its last line feed;
 -- and the layout that follows from it. Assumes nothing.
-use Prim.Native.Nat.{ℕ, suc, _+_, _^_}
+use Prim.Native.Nat.{ℕ, suc, _+_, _-_, _^_}
 use mathlib.Core.Bool.{Bool, true, false, cond}
 use mathlib.Core.List.{List, [], _∷_, map}
+use lib.ListN.{getD}
 use Rattle.text.specs.Places.{placeOf}
 use Rattle.field.specs.Judge.{bare, opt, fixed}
+use Rattle.field.specs.declared.FieldType.{FieldType}
 use Rattle.field.specs.declared.FieldType.the-variants as types
 use Rattle.layout.specs.Layout.{Rule, KindRow, Layout}
 use Rattle.grammar.specs.Sets.{Sets}
@@ -107,3 +109,7 @@ keyedWithin n fields key head = record { name = n; fields = fields; key = key; r
 
 abbrev pub repeatingWithin : List ℕ → List Rule → ℕ → List ℕ → PublishedKind
 repeatingWithin n fields key head = record { name = n; fields = fields; key = key; repeats = true; within = head }
+
+-- the type of a kind's key field
+abbrev pub keyTypeFor : PublishedKind → FieldType
+keyTypeFor k = getD (k .fields) (k .key - 2) null .type

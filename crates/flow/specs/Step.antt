@@ -6,7 +6,7 @@ use mathlib.Core.List.{List, [], _∷_, _++_}
 use lib.ListN.{length, drop}
 use Rattle.grammar.specs.Right.{Completes, StoppedRight, ThroughRight}
 use Rattle.flow.specs.Publication.{Flow, names}
-use Rattle.flow.specs.Flows.{held, flowNamed}
+use Rattle.flow.specs.Editions.{Asked, aFlow, noFlow}
 use Rattle.flow.specs.declared.StepAnswer.{StepAnswer}
 use Rattle.flow.specs.declared.StepAnswer.the-variants.{Refused, Stopped, Through}
 
@@ -54,19 +54,19 @@ pub data Reply : Type 0 where
   stopped : ℕ → Reply
   through : ℕ → Bool → Reply
 
--- what each case of the code's answer says in the papers' terms; a refusal is at record 0, field 0, byte 0
+-- what each case of the code's answer says in the papers' terms
 abbrev pub paper : StepAnswer → Reply
-paper (Refused number) = refused number 0 0 0
+paper (Refused r) = refused (r .number) (r .«record») (r .field) (r .place)
 paper (Stopped place) = stopped place
 paper (Through count complete) = through count complete
 
--- an answer is right, and so are the bytes that were lent: 1 at record 0, field 0, byte 0 where we hold no such flow
-abbrev pub ReplyRight : List ℕ → List ℕ → Reply → List ℕ → List ℕ → Type 0
-ReplyRight name bytes (refused number r f at) old new = (held name ≡ false) × (refused number r f at ≡ refused 1 0 0 0) × (new ≡ old)
-ReplyRight name bytes (stopped place) old new = (held name ≡ true) × StoppedAt (flowNamed name) (kindsIn bytes) place old new
-ReplyRight name bytes (through count complete) old new =
-    (held name ≡ true) × WentThrough (flowNamed name) (kindsIn bytes) count complete old new
+-- for what is asked an answer is right, and so are the bytes that were lent: a flow's own list of kinds is never refused
+abbrev pub ReplyRight : Asked → List ℕ → Reply → List ℕ → List ℕ → Type 0
+ReplyRight (aFlow fl) bytes (refused number r f at) old new = ⊥
+ReplyRight (aFlow fl) bytes (stopped place) old new = StoppedAt fl (kindsIn bytes) place old new
+ReplyRight (aFlow fl) bytes (through count complete) old new = WentThrough fl (kindsIn bytes) count complete old new
+ReplyRight (noFlow x) bytes reply old new = (reply ≡ paper (Refused x)) × (new ≡ old)
 
 -- step the flow table through record kinds
-abbrev pub StepRight : List ℕ → List ℕ → StepAnswer → List ℕ → List ℕ → Type 0
-StepRight name bytes answer old new = ReplyRight name bytes (paper answer) old new
+abbrev pub StepRight : Asked → List ℕ → StepAnswer → List ℕ → List ℕ → Type 0
+StepRight a bytes answer old new = ReplyRight a bytes (paper answer) old new

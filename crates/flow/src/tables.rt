@@ -1,4 +1,4 @@
-// The six flows as numbers; layout's specs/Numbers.antt says how they are read, and table_of is proved to give the published flows.
+// The six flows as numbers, each as it is in edition 533; layout's specs/Numbers.antt says how they are read, and table_of is proved to give the published flows.
 // First how many rows there are, and if the last line feed is needed. Then a row for the start and one for each kind: name, followers
 // as a set (the first kind is the lowest bit), place of its rules, how many rules, key field, kind that heads its set. Then the
 // rules, three numbers a field: type, mark, place of its fixed value in the bytes. Zeros fill up what a smaller flow leaves.
@@ -344,6 +344,9 @@ pub const P0133: [u32; 110] = [
     0,
     0,
 ];
+
+// Where P0133 has the place of SB1's rules; behind it stands how many they are.
+pub const SB1_RULES: usize = 16;
 
 pub const P0133_FIXED: [u8; 16] = *b"P0133001ZHM\0\0\0\0\0";
 

@@ -1,5 +1,5 @@
 -- What a filling of cells leaves, over plain variables: entries put one by one are the first n entries as numbers and then what was there, and those are what CellsRight promises. Assumes nothing.
-use mathlib.Core.Path.{_≡_, refl, sym, _∙_, ap}
+use mathlib.Core.Path.{_≡_, refl, sym, _∙_, ap, subst}
 use Prim.Native.Nat.{ℕ, suc, _+_, _*_, _/_, _≤_, _<_}
 use native.Mathlib.Nat.{mul-div-le}
 use native.Mathlib.Numerals.{add-one}
@@ -7,14 +7,20 @@ use native.Mathlib.Omega.{arith}
 use mathlib.Core.List.{List, [], _∷_, _++_}
 use lib.ListN.{length, take, drop, set, length-append, length-drop}
 use lib.Seq.{sets-eq, take-suc, length-take-le, take-at, drop-at, drop-drop}
-use Rattle.flow.specs.Flows.{flowNamed}
+use Rattle.place.specs.declared.Refusal.{Refusal}
+use Rattle.layout.specs.Layout.{Layout}
+use Rattle.layout.specs.Numbers.{layoutOf}
+use Rattle.flow.specs.Publication.{Flow, layoutFor}
+use Rattle.flow.specs.Editions.{Asked, aFlow, noFlow}
+use Rattle.judge.specs.File.{judgedFor}
 use Rattle.index.specs.declared.Entry.{Entry}
 use Rattle.index.specs.declared.Begun.{Begun}
 use Rattle.index.specs.declared.Indexed.{Indexed}
 use Rattle.index.specs.declared.Indexed.the-variants.{Filled, Refused}
-use Rattle.index.specs.Entries.{kindsFor, entriesOf, entriesFor, answerFor, paper, indexed, numbersOf, cellsOf, cellsBy, CellsRight}
-use Rattle.index.specs.Code.{blank, entryAt, kindsIn, toStore, begun, storedCells}
-use Rattle.index.proofs.Stored.{promised, Agrees, agreed}
+use Rattle.index.specs.Entries.{entriesOf, indexedBy, entriesBy, answerBy, paper, indexed, numbersOf, cellsOf, cellsBy, CellsRight}
+use Rattle.index.specs.Code.{blank, entryAt, kindsIn, toStore, begunBy, storedCells, CellsFilled}
+use Rattle.index.proofs.Tables.{unfixed}
+use Rattle.index.proofs.Stored.{promised, Agrees, agreed-by}
 
 -- ---- an entry is put by four stores, which are the run of stores of its numbers
 pub put-four : (l : List ℕ) (at : ℕ) (e : Entry) → at + 4 ≤ length l
@@ -67,25 +73,36 @@ module _ (es : List Entry) (i : ℕ) (there : i ≤ length es) (old new : List �
       let z : 4 * i + 4 ≡ 4 * (i + 1) = omega arith in
       (λ j. before j ++ numbersOf (at-seam j) ++ behind j) ∙ (λ j. sym (one-more h) j ++ drop (z j) old)
 
--- ---- what `fill_cells` shows of the number that `begin` gave, and what it makes of the cells that `fill_cells_by` left
+-- ---- what `fill_cells_by` shows of the number that `begin_by` gave, and what it makes of the cells that `put_first` left
 cells-made : (said : Indexed) (es : List Entry) (old : List ℕ) → cellsOf (promised said es) ++ drop (4 * toStore said) old ≡ cellsBy said es old
 unfolding cellsOf cellsBy
 cells-made (Refused r) es old = refl
 cells-made (Filled n m) es old = refl
 
-module _ (name f old : List ℕ) (b : Begun) (is : b ≡ begun name f (length old / 4)) (t : List ℕ) (same : kindsIn t ≡ kindsFor (flowNamed name)) where
+module _ (t fixed f old : List ℕ) (b : Begun) (is : b ≡ begunBy (layoutOf t fixed) f (length old / 4)) where
   all-agree : Agrees (entriesOf (kindsIn t) f) (length old / 4) b
-  all-agree = agreed name f (length old / 4) b is (kindsIn t) same
+  all-agree = agreed-by t fixed f (length old / 4) b is
 
   pub cells-fit : (4 * b .count ≤ length old) × b .count ≤ length (entriesOf (kindsIn t) f)
   cells-fit = (omega (arith, all-agree .fits, mul-div-le (length old) 4), all-agree .there)
 
-  pub cells-right : (new : List ℕ) → new ≡ storedCells (kindsIn t) f (b .count) old → CellsRight name f old new (b .answer)
-  unfolding indexed
-  cells-right new left = record {
-    says = ap (λ (c : Begun). paper (c .answer)) is;
+  pub cells-filled : (new : List ℕ) → new ≡ storedCells (kindsIn t) f (b .count) old → CellsFilled (layoutOf t fixed) f old new (b .answer)
+  cells-filled new left = record {
+    says = ap (λ (c : Begun). c .answer) is;
     holds = left
         ∙ ap (λ (es : List Entry). cellsOf es ++ drop (4 * b .count) old) (all-agree .makes)
-        ∙ (λ i. cellsOf (promised (is i .answer) (entriesOf (same i) f)) ++ drop (4 * is i .count) old)
-        ∙ cells-made (answerFor name f (length old / 4)) (entriesFor name f) old;
+        ∙ (λ i. cellsOf (promised (is i .answer) (entriesOf (unfixed t fixed i) f)) ++ drop (4 * is i .count) old)
+        ∙ cells-made (answerBy (layoutOf t fixed) f (length old / 4)) (entriesBy (layoutOf t fixed) f) old;
   }
+
+-- ---- what `fill_cells` says of a refusal of the words, and of what was filled by their flow's table
+module _ (a : Asked) (f old : List ℕ) where
+  pub no-cells : (r : Refusal) → noFlow r ≡ a → CellsRight a f old old (Refused r)
+  unfolding indexed indexedBy judgedFor cellsBy
+  no-cells r e = subst (λ (x : Asked). CellsRight x f old old (Refused r)) e (record { says = refl; holds = refl })
+
+  pub cells-right : (fl : Flow) → aFlow fl ≡ a → (l : Layout) → l ≡ layoutFor fl → (new : List ℕ) (said : Indexed) → CellsFilled l f old new said → CellsRight a f old new said
+  unfolding indexed judgedFor
+  cells-right fl e l is new said w =
+      let right = subst (λ (x : Layout). CellsFilled x f old new said) is w in
+      subst (λ (x : Asked). CellsRight x f old new said) e (record { says = ap paper (right .says); holds = right .holds })

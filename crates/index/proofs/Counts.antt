@@ -1,4 +1,4 @@
--- An index has as many entries as records may have children, and what is begun follows from the reader's answer. Assumes nothing.
+-- An index has as many entries as records may have children, and what is begun follows from the reader's answer, and from what is asked. Assumes nothing.
 use Prim.Native.Nat.{ℕ, _+_, _<_, _≤_}
 use mathlib.Core.Path.{_≡_, refl, sym, ap, _∙_}
 use mathlib.Core.Bool.{Bool, true, false}
@@ -6,18 +6,20 @@ use mathlib.Core.List.{List, [], _∷_, _++_}
 use native.Mathlib.Omega.{arith}
 use lib.ListN.{length}
 use borrow.Author.Tests.{le-leb, lt-leb}
-use Rattle.record.specs.Records.{bar}
 use Rattle.place.specs.Places.{whole}
 use Rattle.place.specs.declared.Refusal.{Refusal}
-use Rattle.judge.specs.File.{verdict, withPlace, judged, paper as readerPaper}
-use Rattle.judge.proofs.Demand2.{one-reply}
+use Rattle.layout.specs.Layout.{Layout}
+use Rattle.layout.specs.Numbers.{layoutOf}
+use Rattle.flow.specs.Publication.{Flow, layoutFor}
+use Rattle.flow.specs.Editions.{Asked, aFlow, noFlow}
+use Rattle.judge.specs.File.{placedBy, judgedFor}
 use Rattle.judge.specs.declared.Judged.{Judged}
 use Rattle.judge.specs.declared.Judged.the-variants as files
 use Rattle.index.specs.declared.Begun.{Begun}
-use Rattle.index.specs.declared.Indexed.{Indexed}
 use Rattle.index.specs.declared.Indexed.the-variants.{Filled, Refused}
-use Rattle.index.specs.Entries.{Kinds, kindsOf, mayHead, headsIn, entriesFrom, entriesOf, indexedBy, entriesFor}
-use Rattle.index.specs.Code.{toStore, begun}
+use Rattle.index.specs.Entries.{Kinds, kindsOf, mayHead, headsIn, entriesFrom, entriesOf, indexedBy, entriesBy}
+use Rattle.index.specs.Code.{kindsIn, giving, begunBy, begun}
+use Rattle.index.proofs.Tables.{unfixed}
 
 module _ (ks : Kinds) (f : List ℕ) where
   entry-counted : (before js : List ℕ) (j : ℕ) (b : Bool) → mayHead ks j ≡ b → headsIn ks js ≡ length (entriesFrom ks f (before ++ j ∷ []) js)
@@ -34,34 +36,38 @@ module _ (ks : Kinds) (f : List ℕ) where
   pub entries-count : headsIn ks (kindsOf ks f) ≡ length (entriesOf ks f)
   entries-count = from-count [] (kindsOf ks f)
 
+-- as many by a table as by its layout
+pub table-count : (t fixed f : List ℕ) → headsIn (kindsIn t) (kindsOf (kindsIn t) f) ≡ length (entriesBy (layoutOf t fixed) f)
+table-count t fixed f = entries-count (kindsIn t) f ∙ ap (λ (ks : Kinds). length (entriesOf ks f)) (unfixed t fixed)
+
 -- by the reader's answer
-module _ (name f : List ℕ) (room : ℕ) (v : Judged) (e : readerPaper v ≡ judged name f) where
-  reader : v ≡ withPlace bar f (verdict name f)
-  unfolding judged
-  reader = one-reply v (withPlace bar f (verdict name f)) e
+module _ (l : Layout) (f : List ℕ) (room : ℕ) (v : Judged) (reader : v ≡ placedBy l f) where
+  by-reader : (w : Judged) → v ≡ w → giving (indexedBy w (entriesBy l f) room) ≡ begunBy l f room
+  by-reader w is = ap (λ (x : Judged). giving (indexedBy x (entriesBy l f) room)) (sym is ∙ reader)
 
-  abbrev said : Indexed → Begun
-  said r = record { answer = r; count = toStore r }
-
-  by-reader : said (indexedBy v (entriesFor name f) room) ≡ begun name f room
-  by-reader = ap (λ (w : Judged). said (indexedBy w (entriesFor name f) room)) reader
-
-  pub reader-refused : {r : Refusal} → v ≡ files.Refused r → said (Refused r) ≡ begun name f room
+  pub reader-refused : {r : Refusal} → v ≡ files.Refused r → giving (Refused r) ≡ begunBy l f room
   unfolding indexedBy
-  reader-refused {r = r} is = ap (λ (w : Judged). said (indexedBy w (entriesFor name f) room)) (sym is) ∙ by-reader
+  reader-refused {r = r} is = by-reader (files.Refused r) is
 
-  module _ {n count : ℕ} (is : v ≡ files.Accepted n) (counted : count ≡ length (entriesFor name f)) where
-    accepted : said (indexedBy (files.Accepted n) (entriesFor name f) room) ≡ begun name f room
-    accepted = ap (λ (w : Judged). said (indexedBy w (entriesFor name f) room)) (sym is) ∙ by-reader
-
-    pub too-short : room < count → {r : Refusal} → r ≡ whole 19 → said (Refused r) ≡ begun name f room
+  module _ {n count : ℕ} (is : v ≡ files.Accepted n) (counted : count ≡ length (entriesBy l f)) where
+    pub too-short : room < count → {r : Refusal} → r ≡ whole 19 → giving (Refused r) ≡ begunBy l f room
     unfolding indexedBy
     too-short h {r = r} nineteen =
-        let short : indexedBy (files.Accepted n) (entriesFor name f) room ≡ Refused (whole 19) = rw (lt-leb (length (entriesFor name f)) room (omega (arith, h, counted))) in
-        ap (λ (x : Refusal). said (Refused x)) nineteen ∙ ap said (sym short) ∙ accepted
+        let short : indexedBy (files.Accepted n) (entriesBy l f) room ≡ Refused (whole 19) = rw (lt-leb (length (entriesBy l f)) room (omega (arith, h, counted))) in
+        ap (λ (x : Refusal). giving (Refused x)) nineteen ∙ ap giving (sym short) ∙ by-reader (files.Accepted n) is
 
-    pub has-room : count ≤ room → said (Filled n count) ≡ begun name f room
+    pub has-room : count ≤ room → giving (Filled n count) ≡ begunBy l f room
     unfolding indexedBy
     has-room h =
-        let fits : indexedBy (files.Accepted n) (entriesFor name f) room ≡ Filled n (length (entriesFor name f)) = rw (le-leb (length (entriesFor name f)) room (omega (arith, h, counted))) in
-        ap (λ (m : ℕ). said (Filled n m)) counted ∙ ap said (sym fits) ∙ accepted
+        let fits : indexedBy (files.Accepted n) (entriesBy l f) room ≡ Filled n (length (entriesBy l f)) = rw (le-leb (length (entriesBy l f)) room (omega (arith, h, counted))) in
+        ap (λ (m : ℕ). giving (Filled n m)) counted ∙ ap giving (sym fits) ∙ by-reader (files.Accepted n) is
+
+-- by what is asked
+module _ (a : Asked) (f : List ℕ) (room : ℕ) where
+  pub begun-refused : (r : Refusal) → noFlow r ≡ a → giving (Refused r) ≡ begun a f room
+  unfolding indexedBy judgedFor
+  begun-refused r e = ap (λ (x : Asked). begun x f room) e
+
+  pub begun-flow : (fl : Flow) → aFlow fl ≡ a → (l : Layout) → l ≡ layoutFor fl → (b : Begun) → b ≡ begunBy l f room → b ≡ begun a f room
+  unfolding judgedFor
+  begun-flow fl e l is b w = w ∙ ap (λ (x : Layout). begunBy x f room) is ∙ ap (λ (x : Asked). begun x f room) e

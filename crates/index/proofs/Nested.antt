@@ -1,6 +1,6 @@
 -- In an accepted file each record that stands within a kind has a parent: a record of that kind stands before it. Assumes nothing.
 use Prim.Native.Nat.{ℕ, zero, suc, _+_, _-_, _≤_, _<_}
-use mathlib.Core.Path.{_≡_, refl, sym, ap, _∙_}
+use mathlib.Core.Path.{_≡_, refl, sym, ap, _∙_, subst}
 use mathlib.Core.Bool.{Bool, true, false, not, _||_}
 use mathlib.Core.Logic.{_⊎_, inl, inr}
 use mathlib.Core.List.{List, [], _∷_, _++_, map, map-append}
@@ -9,20 +9,23 @@ use lib.Dec.{T, eqb, eqb→eq}
 use lib.ListN.{length, getD, drop, length-map, List·getD-map}
 use borrow.Author.Tests.{eqb-true, eqb-false}
 use Rattle.text.specs.Places.{each}
-use Rattle.text.proofs.Places.{each-at, all-at, place-most}
+use Rattle.text.proofs.Places.{each-at, place-most}
 use Rattle.text.proofs.Tests.{or-cases, or-second}
 use Rattle.record.specs.Records.{records, field, bar}
-use Rattle.layout.specs.Layout.{KindRow, Layout, blank, rowNames, find, among, mayFollow}
+use Rattle.layout.specs.Layout.{KindRow, Layout, blank, row, rowNames, find, among, mayFollow}
 use Rattle.flow.specs.Publication.{Flow, layoutFor}
-use Rattle.flow.specs.Flows.{flows, flowAt, flowNamed, flowNumber, p0012}
-use Rattle.flow.proofs.Agree.{tables-agree, some-kind}
+use Rattle.flow.specs.Editions.{Asked, aFlow, asked}
+use Rattle.flow.specs.Proper.{heads, nests, Proper}
+use Rattle.flow.proofs.Proper.{ProperAsked}
+use Rattle.flow.proofs.Asking.{asked-proper}
 use Rattle.fault.specs.Record.{kindOf}
 use Rattle.judge.specs.Record.{lastKind}
 use Rattle.judge.specs.File.{judged, accepted}
+use Rattle.judge.specs.Right.{RightFor}
 use Rattle.judge.proofs.Files.{last-snoc}
 use Rattle.judge.proofs.RightEach.{Each, each-none, each-cons, each-first, each-rest}
 use Rattle.judge.proofs.RightKinds.{Placed, under-placed}
-use Rattle.judge.proofs.Demand2.{demand2}
+use Rattle.judge.proofs.Demand2.{right-asked}
 use Rattle.index.specs.Entries.{Kinds, kindsBy, kindsFor, kindIn, headOf, lastOf, parentOf}
 use Rattle.index.proofs.Children.{last-same, last-other, parent-found}
 
@@ -40,21 +43,6 @@ module _ (ks : Kinds) where
   up-up (suc m) n k =
       let e : suc (m + n) ≡ suc m + n = omega arith in
       up-up m n (headOf ks k) ∙ ap (λ (t : ℕ). up t k) e
-
-  -- h is k or one of those kinds, n steps up at most
-  above : ℕ → ℕ → ℕ → Bool
-  above zero h k = eqb k h
-  above (suc n) h k = eqb k h || above n h (headOf ks k)
-
-  above-go : (n h k : ℕ) → (T (above n h (headOf ks k)) → (m : ℕ) × (up m (headOf ks k) ≡ h)) → T (eqb k h) ⊎ T (above n h (headOf ks k)) → (m : ℕ) × (up m k ≡ h)
-  unfolding up
-  above-go n h k ih (inl t) = (0, eqb→eq k h t)
-  above-go n h k ih (inr t) = (suc (ih t .0), ih t .1)
-
-  above-up : (n h k : ℕ) → T (above n h k) → (m : ℕ) × (up m k ≡ h)
-  unfolding up above
-  above-up zero h k t = (0, eqb→eq k h t)
-  above-up (suc n) h k t = above-go n h k (above-up n h (headOf ks k)) (or-cases (eqb k h) (above n h (headOf ks k)) t)
 
   -- of k and of each kind above it there is a record among these
   abbrev Seen : List ℕ → ℕ → Type 0
@@ -82,12 +70,7 @@ module _ (ks : Kinds) where
   seen-parent : (js : List ℕ) (p j m : ℕ) → up m p ≡ headOf ks j → Seen js p → 1 ≤ headOf ks j → 1 ≤ parentOf ks js j
   seen-parent js p j m e s real = omega (arith, parent-found ks js j real, s m (omega (arith, e, real)), ap (λ (h : ℕ). lastOf h js) e)
 
--- a kind that may follow another stands within that one, or within a kind above it, or within none
-nests : Flow → Bool
-nests fl =
-    each (λ p r. each (λ j q. not (among j (r .next)) || above (kindsFor fl) 8 (q .head) p) 0 (layoutFor fl .rows)) 0 (layoutFor fl .rows)
-
-module _ (fl : Flow) (nested : T (nests fl)) where
+module _ (fl : Flow) (proper : Proper fl) where
   abbrev l : Layout
   l = layoutFor fl
 
@@ -106,13 +89,26 @@ module _ (fl : Flow) (nested : T (nests fl)) where
   unfolding kindsBy
   head-is j = sym (List·getD-map (λ (q : KindRow). q .head) (l .rows) j blank)
 
+  -- what heads the set that a kind stands in, so many sets deep, is one of the kinds above it
+  heads-go : (n h k : ℕ) → (T (heads l n h (row l k .head)) → (m : ℕ) × (up ks m (row l k .head) ≡ h)) → T (eqb k h) ⊎ T (heads l n h (row l k .head))
+      → (m : ℕ) × (up ks m k ≡ h)
+  unfolding up
+  heads-go n h k ih (inl t) = (0, eqb→eq k h t)
+  heads-go n h k ih (inr t) = (suc (ih t .0), ap (up ks (ih t .0)) (sym (head-is k)) ∙ ih t .1)
+
+  heads-up : (n h k : ℕ) → T (heads l n h k) → (m : ℕ) × (up ks m k ≡ h)
+  unfolding up heads
+  heads-up zero h k t = (0, eqb→eq k h t)
+  heads-up (suc n) h k t = heads-go n h k (heads-up n h (row l k .head)) (or-cases (eqb k h) (heads l n h (row l k .head)) t)
+
   follows-within : (p j : ℕ) → p < length (l .rows) → j < length (l .rows) → mayFollow l p j ≡ true → (m : ℕ) × (up ks m p ≡ headOf ks j)
   unfolding nests
   follows-within p j hp hj e =
       let rows = l .rows in
-      let t = each-at (λ p r. each (λ j q. not (among j (r .next)) || above ks 8 (q .head) p) 0 rows) blank 0 rows nested p p hp (omega arith) in
-      let u = each-at (λ j q. not (among j (getD rows p blank .next)) || above ks 8 (q .head) p) blank 0 rows t j j hj (omega arith) in
-      let v = above-up ks 8 (getD rows j blank .head) p (or-second (not (mayFollow l p j)) _ (λ n. rw e at n) u) in
+      let nested : T (nests l) = subst T (sym (proper .nested)) tt in
+      let t = each-at (λ p r. each (λ j q. not (among j (r .next)) || heads l 8 (q .head) p) 0 rows) blank 0 rows nested p p hp (omega arith) in
+      let u = each-at (λ j q. not (among j (getD rows p blank .next)) || heads l 8 (q .head) p) blank 0 rows t j j hj (omega arith) in
+      let v = heads-up 8 (getD rows j blank .head) p (or-second (not (mayFollow l p j)) _ (λ n. rw e at n) u) in
       (v .0, v .1 ∙ head-is j)
 
   none-above : (n : ℕ) → up ks n 0 ≡ 0
@@ -137,12 +133,17 @@ module _ (fl : Flow) (nested : T (nests fl)) where
   unfolding lastKind
   from-start rs x = all-parents [] rs 0 refl (omega arith) (λ n real. absurd (omega (arith, real, none-above n))) x
 
--- each flow that we hold is such a flow, by one computed test over all of them
-all-nest : (n : ℕ) → T (nests (flowAt n))
-unfolding nests above among kindsBy
-all-nest n = all-at nests p0012 flows (tt {0}) (tt {0}) (n - 1)
+-- in a file that is right for a proper flow
+pub right-parents : (fl : Flow) → Proper fl → (f : List ℕ) (n : ℕ) → RightFor fl f n → Each (HasParent (kindsFor fl)) [] (records f)
+right-parents fl proper f n right = from-start fl proper (records f) (under-placed fl (proper .agree) (proper .some) (records f) (right .grammar))
 
-pub has-parent : (name f : List ℕ) (n : ℕ) → judged name f ≡ accepted n → Each (HasParent (kindsFor (flowNamed name))) [] (records f)
-has-parent name f n e =
-    let number = flowNumber name in
-    from-start (flowNamed name) (all-nest number) (records f) (under-placed (flowNamed name) (tables-agree number) (some-kind number) (records f) (demand2 name f n .0 e .file .grammar))
+-- so in one that is accepted for what is asked, where that is proper
+pub asked-parents : (a : Asked) → ProperAsked a → (f : List ℕ) (n : ℕ) → judged a f ≡ accepted n
+    → (fl : Flow) × (a ≡ aFlow fl) × Each (HasParent (kindsFor fl)) [] (records f)
+asked-parents a proper f n e =
+    let r = right-asked f n a proper .0 e in
+    (r .flow, r .isHeld, right-parents (r .flow) (subst ProperAsked (r .isHeld) proper) f n (r .file))
+
+pub has-parent : (words f : List ℕ) (n : ℕ) → judged (asked words) f ≡ accepted n
+    → (fl : Flow) × (asked words ≡ aFlow fl) × Each (HasParent (kindsFor fl)) [] (records f)
+has-parent words f n e = asked-parents (asked words) (asked-proper words) f n e

@@ -1,7 +1,7 @@
 -- Each child is counted once: the children of all entries are the records that have a parent, and in an accepted file those are the
 -- records that stand within a kind. Assumes nothing.
 use Prim.Native.Nat.{ℕ, zero, suc, _+_, _≤_, _<_}
-use mathlib.Core.Path.{_≡_, refl, sym, ap, _∙_}
+use mathlib.Core.Path.{_≡_, refl, sym, ap, _∙_, subst}
 use mathlib.Core.Bool.{Bool, true, false, cond}
 use mathlib.Core.List.{List, [], _∷_, _++_, map, map-append}
 use native.Mathlib.Omega.{arith}
@@ -10,14 +10,20 @@ use lib.ListN.{length, getD, length-append, List·getD-append}
 use lib.Seq.{append-snoc}
 use borrow.Author.Tests.{eq-eqb, ne-eqb, leb-true}
 use Rattle.record.specs.Records.{records}
-use Rattle.flow.specs.Flows.{flowNamed}
+use Rattle.flow.specs.Publication.{Flow, layoutFor}
+use Rattle.flow.specs.Editions.{Asked, aFlow, asked}
+use Rattle.flow.specs.Proper.{Proper}
+use Rattle.flow.proofs.Proper.{ProperAsked}
+use Rattle.flow.proofs.Asking.{asked-proper}
 use Rattle.judge.specs.File.{judged, accepted}
+use Rattle.judge.specs.Right.{RightFor}
 use Rattle.judge.proofs.RightEach.{Each, each-first, each-rest}
-use Rattle.index.specs.Entries.{Kinds, kindsFor, kindIn, kindsOf, headOf, mayHead, parentOf, childrenFrom, children, entriesFrom, entriesOf, entriesFor}
+use Rattle.judge.proofs.Demand2.{right-asked}
+use Rattle.index.specs.Entries.{Kinds, kindsFor, kindIn, kindsOf, headOf, mayHead, parentOf, childrenFrom, children, entriesFrom, entriesOf, entriesBy, entriesFor}
 use Rattle.index.specs.Whole.{childTotal, withinSome}
 use Rattle.index.proofs.Children.{last-is, parent-le, parent-kind}
 use Rattle.index.proofs.Reading.{head-may}
-use Rattle.index.proofs.Nested.{HasParent, has-parent}
+use Rattle.index.proofs.Nested.{HasParent, right-parents}
 
 -- a number other than 0 counts one
 abbrev some : ℕ → ℕ
@@ -163,8 +169,20 @@ module _ (ks : Kinds) (f : List ℕ) where
   pub all-parented : childTotal (entriesOf ks f) ≡ parented ks [] (kindsOf ks f)
   all-parented = total-over [] (kindsOf ks f) ∙ all-once ks (kindsOf ks f) [] (kindsOf ks f) refl
 
--- in an accepted file the children of all entries are the records that stand within a kind
-pub each-child-once : (name f : List ℕ) (n : ℕ) → judged name f ≡ accepted n
-    → childTotal (entriesFor name f) ≡ withinSome (kindsFor (flowNamed name)) (kindsOf (kindsFor (flowNamed name)) f)
-each-child-once name f n e =
-    all-parented (kindsFor (flowNamed name)) f ∙ parented-within (kindsFor (flowNamed name)) [] (records f) (has-parent name f n e)
+-- in a file that is right for a proper flow the children of all entries are the records that stand within a kind
+pub right-once : (fl : Flow) → Proper fl → (f : List ℕ) (n : ℕ) → RightFor fl f n → childTotal (entriesBy (layoutFor fl) f) ≡ withinSome (kindsFor fl) (kindsOf (kindsFor fl) f)
+right-once fl proper f n right = all-parented (kindsFor fl) f ∙ parented-within (kindsFor fl) [] (records f) (right-parents fl proper f n right)
+
+-- so in one that is accepted for what is asked, where that is proper
+pub asked-once : (a : Asked) → ProperAsked a → (f : List ℕ) (n : ℕ) → judged a f ≡ accepted n
+    → (fl : Flow) × (a ≡ aFlow fl) × (childTotal (entriesFor a f) ≡ withinSome (kindsFor fl) (kindsOf (kindsFor fl) f))
+asked-once a proper f n e =
+    let r = right-asked f n a proper .0 e in (
+      r .flow,
+      r .isHeld,
+      ap (λ (x : Asked). childTotal (entriesFor x f)) (r .isHeld) ∙ right-once (r .flow) (subst ProperAsked (r .isHeld) proper) f n (r .file),
+    )
+
+pub each-child-once : (words f : List ℕ) (n : ℕ) → judged (asked words) f ≡ accepted n
+    → (fl : Flow) × (asked words ≡ aFlow fl) × (childTotal (entriesFor (asked words) f) ≡ withinSome (kindsFor fl) (kindsOf (kindsFor fl) f))
+each-child-once words f n e = asked-once (asked words) (asked-proper words) f n e

@@ -10,17 +10,18 @@ use lib.Dec.{leb}
 use borrow.Author.Tests.{leb-true}
 use Rattle.text.specs.Rules.{must}
 use Rattle.place.specs.Places.{whole}
-use Rattle.record.specs.Records.{bar}
-use Rattle.flow.specs.Flows.{flowNamed}
-use Rattle.judge.specs.File.{verdict, withPlace}
+use Rattle.layout.specs.Numbers.{layoutOf}
+use Rattle.flow.specs.Editions.{Asked, aFlow, noFlow}
+use Rattle.judge.specs.File.{placedBy, judgedFor}
 use Rattle.judge.specs.declared.Judged.{Judged}
 use Rattle.judge.specs.declared.Judged.the-variants as files
 use Rattle.index.specs.declared.Entry.{Entry}
 use Rattle.index.specs.declared.Begun.{Begun}
 use Rattle.index.specs.declared.Indexed.{Indexed}
 use Rattle.index.specs.declared.Indexed.the-variants.{Filled, Refused}
-use Rattle.index.specs.Entries.{Kinds, kindsFor, entriesOf, entriesFor, indexedBy, listBy, answerFor, paper, indexed, listed, FilledRight}
-use Rattle.index.specs.Code.{blank, kindsIn, starting, advanced, after, toStore, begun, stored}
+use Rattle.index.specs.Entries.{Kinds, entriesOf, indexedBy, listBy, entriesBy, entriesFor, answerFor, paper, indexed, listed, FilledRight}
+use Rattle.index.specs.Code.{blank, kindsIn, starting, advanced, after, toStore, giving, begunBy, begun, HasKinds, stored}
+use Rattle.index.proofs.Tables.{unfixed}
 use Rattle.index.proofs.Reading.{entry-read}
 
 -- ---- entries stored one by one
@@ -77,9 +78,6 @@ pub record Agrees (es : List Entry) (room : ℕ) (b : Begun) : Type 0 where
   pub there : b .count ≤ length es
   pub makes : take (b .count) es ≡ promised (b .answer) es
 
-abbrev giving : Indexed → Begun
-giving said = record { answer = said; count = toStore said }
-
 agrees-by : (t : Bool) (n : ℕ) (es : List Entry) (room : ℕ) → leb (length es) room ≡ t → Agrees es room (giving (must t (Refused (whole 19)) (Filled n (length es))))
 agrees-by true n es room e = record { fits = leb-true (length es) room e; there = omega arith; makes = take-length es }
 agrees-by false n es room e = record { fits = omega arith; there = omega arith; makes = refl }
@@ -89,34 +87,48 @@ unfolding indexedBy
 agrees (files.Refused r) es room = record { fits = omega arith; there = omega arith; makes = refl }
 agrees (files.Accepted n) es room = agrees-by (leb (length es) room) n es room refl
 
--- `fill` and the filling of cells know the flow's kinds by their table
-pub agreed : (name f : List ℕ) (room : ℕ) (b : Begun) → b ≡ begun name f room → (ks : Kinds) → ks ≡ kindsFor (flowNamed name) → Agrees (entriesOf ks f) room b
-agreed name f room b is ks same =
-    subst (λ (c : Begun). Agrees (entriesOf ks f) room c) (sym is)
-    (subst (λ (k : Kinds). Agrees (entriesOf k f) room (begun name f room)) (sym same) (agrees (withPlace bar f (verdict name f)) (entriesFor name f) room))
+-- by a table
+pub agreed-by : (t fixed f : List ℕ) (room : ℕ) (b : Begun) → b ≡ begunBy (layoutOf t fixed) f room → Agrees (entriesOf (kindsIn t) f) room b
+agreed-by t fixed f room b is =
+    subst (λ (c : Begun). Agrees (entriesOf (kindsIn t) f) room c) (sym is)
+    (subst (λ (ks : Kinds). Agrees (entriesOf ks f) room (begunBy (layoutOf t fixed) f room)) (sym (unfixed t fixed)) (agrees (placedBy (layoutOf t fixed) f) (entriesBy (layoutOf t fixed) f) room))
 
--- ---- what `fill` shows of the number that `begin` gave, and what it makes of the list that `fill_by` left
+-- for what is asked, by the kinds of its flow
+module _ (f : List ℕ) (room : ℕ) (ks : Kinds) where
+  agrees-asked : (a : Asked) → HasKinds a ks → Agrees (entriesOf ks f) room (begun a f room)
+  unfolding indexedBy judgedFor
+  agrees-asked (aFlow fl) same = subst (λ (k : Kinds). Agrees (entriesOf k f) room (begun (aFlow fl) f room)) (sym same) (agrees (judgedFor (aFlow fl) f) (entriesFor (aFlow fl) f) room)
+  agrees-asked (noFlow r) same = record { fits = omega arith; there = omega arith; makes = refl }
+
+  -- the entries that are promised are those of the flow
+  promised-asked : (a : Asked) → HasKinds a ks → promised (answerFor a f room) (entriesOf ks f) ≡ promised (answerFor a f room) (entriesFor a f)
+  unfolding indexedBy judgedFor
+  promised-asked (aFlow fl) same = ap (λ (k : Kinds). promised (answerFor (aFlow fl) f room) (entriesOf k f)) same
+  promised-asked (noFlow r) same = refl
+
+-- ---- what `fill` shows of the number that `begin` gave, and what it makes of the list that `store_first` left
 list-made : (said : Indexed) (es old : List Entry) → promised said es ++ drop (toStore said) old ≡ listBy said es old
 unfolding listBy
 list-made (Refused r) es old = refl
 list-made (Filled n m) es old = refl
 
-pub count-fits : (name f : List ℕ) (old : List Entry) (b : Begun) → b ≡ begun name f (length old) → b .count ≤ length old
-count-fits name f old b is = agreed name f (length old) b is (kindsFor (flowNamed name)) refl .fits
+pub count-fits : (a : Asked) (f : List ℕ) (old : List Entry) (b : Begun) → b ≡ begun a f (length old) → b .count ≤ length old
+count-fits a f old b is = subst (λ (c : Begun). c .count ≤ length old) (sym is) (agrees (judgedFor a f) (entriesFor a f) (length old) .fits)
 
-module _ (name f : List ℕ) (old : List Entry) (b : Begun) (is : b ≡ begun name f (length old)) (t : List ℕ) (same : kindsIn t ≡ kindsFor (flowNamed name)) where
+module _ (a : Asked) (f : List ℕ) (old : List Entry) (b : Begun) (is : b ≡ begun a f (length old)) (t : List ℕ) (same : HasKinds a (kindsIn t)) where
   all-agree : Agrees (entriesOf (kindsIn t) f) (length old) b
-  all-agree = agreed name f (length old) b is (kindsIn t) same
+  all-agree = subst (Agrees (entriesOf (kindsIn t) f) (length old)) (sym is) (agrees-asked f (length old) (kindsIn t) a same)
 
   pub count-there : b .count ≤ length (entriesOf (kindsIn t) f)
   count-there = all-agree .there
 
-  pub filled-right : (new : List Entry) → new ≡ stored (kindsIn t) f (b .count) old → FilledRight name f old new (b .answer)
+  pub filled-right : (new : List Entry) → new ≡ stored (kindsIn t) f (b .count) old → FilledRight a f old new (b .answer)
   unfolding indexed listed
   filled-right new left = record {
     says = ap (λ (c : Begun). paper (c .answer)) is;
     holds = left
         ∙ ap (λ (es : List Entry). es ++ drop (b .count) old) (all-agree .makes)
-        ∙ (λ i. promised (is i .answer) (entriesOf (same i) f) ++ drop (is i .count) old)
-        ∙ list-made (answerFor name f (length old)) (entriesFor name f) old;
+        ∙ (λ i. promised (is i .answer) (entriesOf (kindsIn t) f) ++ drop (is i .count) old)
+        ∙ ap (λ (es : List Entry). es ++ drop (toStore (answerFor a f (length old))) old) (promised-asked f (length old) (kindsIn t) a same)
+        ∙ list-made (answerFor a f (length old)) (entriesFor a f) old;
   }

@@ -1,6 +1,6 @@
 -- The kinds that an index goes by are those of the table that is lent: fixed values have no part in them. Assumes nothing.
 use Prim.Native.Nat.{ℕ, zero, suc, _+_, _≤_, _<_}
-use mathlib.Core.Path.{_≡_, refl, sym, ap, _∙_}
+use mathlib.Core.Path.{_≡_, refl, sym, ap, _∙_, subst}
 use mathlib.Core.Bool.{Bool, true, false}
 use mathlib.Core.List.{List, [], _∷_, map}
 use native.Mathlib.Omega.{arith}
@@ -13,9 +13,12 @@ use Rattle.layout.specs.Layout.{KindRow, row, blank, find}
 use Rattle.layout.specs.Numbers.{each, rowOf, rowCount, layoutOf}
 use Rattle.layout.proofs.Each.{each-at}
 use Rattle.layout.proofs.Rows.{rows-length}
+use Rattle.place.specs.declared.Refusal.{Refusal}
+use Rattle.flow.specs.Publication.{Flow, layoutFor}
+use Rattle.flow.specs.Editions.{Asked, aFlow, noFlow}
 use Rattle.fault.specs.Record.{kindOf}
 use Rattle.index.specs.Entries.{Kinds, kindsBy, kindIn, headOf, someIs, mayHead}
-use Rattle.index.specs.Code.{kindsIn, headsOf}
+use Rattle.index.specs.Code.{kindsIn, headsOf, HasKinds}
 
 -- a row's name and head
 abbrev nameIn : KindRow → List ℕ
@@ -46,6 +49,14 @@ unfixed t fixed =
     let names = rest-alike nameIn t [] fixed (λ k. refl) (rowCount t) in
     let heads = rows-alike headIn t [] fixed (λ k. refl) 0 (rowCount t) in
     λ i. of (names i) (heads i)
+
+-- the kinds of the flow that is asked for, where one is
+module _ (a : Asked) where
+  pub no-kinds : (ks : Kinds) (r : Refusal) → noFlow r ≡ a → HasKinds a ks
+  no-kinds ks r e = subst (λ (x : Asked). HasKinds x ks) e tt
+
+  pub flow-kinds : (fl : Flow) → aFlow fl ≡ a → (t fixed : List ℕ) → layoutOf t fixed ≡ layoutFor fl → HasKinds a (kindsIn t)
+  flow-kinds fl e t fixed is = subst (λ (x : Asked). HasKinds x (kindsIn t)) e (unfixed t fixed ∙ ap kindsBy is)
 
 module _ (t : List ℕ) where
   -- the kind that the code finds

@@ -1,17 +1,20 @@
 -- What the code's inner functions do: a file is read on from entry to entry. Assumes nothing.
-use Prim.Native.Nat.{ℕ, zero, suc, _+_, _*_}
+use Prim.Native.Nat.{ℕ, zero, suc, _+_, _*_, _/_}
+use mathlib.Core.Path.{_≡_}
 use mathlib.Core.Bool.{Bool, false, cond}
 use mathlib.Core.List.{List, [], _∷_, _++_, map}
 use lib.Dec.{eqb}
 use lib.ListN.{length, getD, take, drop, set, replicate}
 use Rattle.record.specs.Records.{records}
+use Rattle.layout.specs.Layout.{Layout}
 use Rattle.layout.specs.Numbers.{each, layoutOf}
+use Rattle.flow.specs.Editions.{Asked, aFlow, noFlow}
 use Rattle.index.specs.declared.Entry.{Entry}
 use Rattle.index.specs.declared.Indexed.{Indexed}
 use Rattle.index.specs.declared.Indexed.the-variants.{Filled, Refused}
 use Rattle.index.specs.declared.Begun.{Begun}
 use Rattle.index.specs.declared.Filling.{Filling}
-use Rattle.index.specs.Entries.{Kinds, kindsBy, kindIn, headOf, mayHead, entry, entriesOf, answerFor, cellsOf}
+use Rattle.index.specs.Entries.{Kinds, kindsBy, kindsFor, kindIn, headOf, mayHead, entry, entriesOf, entriesBy, answerBy, answerFor, cellsOf, cellsBy}
 
 -- no entry
 abbrev pub blank : Entry
@@ -71,13 +74,25 @@ unfoldable pub after : Kinds → List ℕ → ℕ → Filling
 after ks f zero = starting ks
 after ks f (suc i) = advanced ks f (after ks f i)
 
--- what is to be said, and how many entries are to be stored: none where the file or the list is refused
+-- what is to be said, and how many entries are to be stored: none where what is asked, the file or the list is refused
 abbrev pub toStore : Indexed → ℕ
 toStore (Refused r) = 0
 toStore (Filled n m) = m
 
-abbrev pub begun : List ℕ → List ℕ → ℕ → Begun
-begun name f room = record { answer = answerFor name f room; count = toStore (answerFor name f room) }
+abbrev pub giving : Indexed → Begun
+giving said = record { answer = said; count = toStore said }
+
+-- for a file and so much room, by a layout, and for what is asked
+abbrev pub begunBy : Layout → List ℕ → ℕ → Begun
+begunBy l f room = giving (answerBy l f room)
+
+abbrev pub begun : Asked → List ℕ → ℕ → Begun
+begun a f room = giving (answerFor a f room)
+
+-- some kinds are those of the flow that is asked for, where one is
+abbrev pub HasKinds : Asked → Kinds → Type 0
+HasKinds (aFlow fl) ks = ks ≡ kindsFor fl
+HasKinds (noFlow r) ks = Unit
 
 -- the first n entries of a file's index, and then what a list held
 abbrev pub stored : Kinds → List ℕ → ℕ → List Entry → List Entry
@@ -86,3 +101,8 @@ stored ks f n old = take n (entriesOf ks f) ++ drop n old
 -- the same in numbers, four an entry
 abbrev pub storedCells : Kinds → List ℕ → ℕ → List ℕ → List ℕ
 storedCells ks f n old = cellsOf (take n (entriesOf ks f)) ++ drop (4 * n) old
+
+-- numbers filled by a layout: what is said, and what they hold at the end
+pub record CellsFilled (l : Layout) (f old new : List ℕ) (said : Indexed) : Type 0 where
+  pub says : said ≡ answerBy l f (length old / 4)
+  pub holds : new ≡ cellsBy (answerBy l f (length old / 4)) (entriesBy l f) old

@@ -1,4 +1,4 @@
--- An index beside the file: an entry for each record that may have children (document 02, C-13). Assumes nothing.
+-- An index beside the file: an entry for each record that may have children (document 02, C-13 and C-16). Assumes nothing.
 use Prim.Native.Nat.{ℕ, _+_, _*_, _/_}
 use mathlib.Core.Path.{_≡_}
 use mathlib.Core.Bool.{Bool, false, cond, _&&_, _||_}
@@ -11,8 +11,8 @@ use Rattle.record.specs.Records.{records, field, bar}
 use Rattle.place.specs.Places.{placeAt, whole}
 use Rattle.layout.specs.Layout.{KindRow, Layout, rowNames}
 use Rattle.flow.specs.Publication.{Flow, layoutFor}
-use Rattle.flow.specs.Flows.{flowNamed}
-use Rattle.judge.specs.File.{verdict, withPlace}
+use Rattle.flow.specs.Editions.{Asked, aFlow, noFlow}
+use Rattle.judge.specs.File.{placedBy, judgedFor}
 use Rattle.judge.specs.declared.Judged.{Judged}
 use Rattle.judge.specs.declared.Judged.the-variants as files
 use Rattle.index.specs.declared.Entry.{Entry}
@@ -110,13 +110,21 @@ unfoldable pub listBy : Indexed → List Entry → List Entry → List Entry
 listBy (Refused r) es old = old
 listBy (Filled n m) es old = es ++ drop m old
 
--- the entries of a file for the flow of a name
-abbrev pub entriesFor : List ℕ → List ℕ → List Entry
-entriesFor name f = entriesOf (kindsFor (flowNamed name)) f
+-- the entries of a file by a layout
+abbrev pub entriesBy : Layout → List ℕ → List Entry
+entriesBy l f = entriesOf (kindsBy l) f
 
--- the answer for a file and a list of so many entries
-abbrev pub answerFor : List ℕ → List ℕ → ℕ → Indexed
-answerFor name f room = indexedBy (withPlace bar f (verdict name f)) (entriesFor name f) room
+-- the answer by a layout for a file and a list of so many entries
+abbrev pub answerBy : Layout → List ℕ → ℕ → Indexed
+answerBy l f room = indexedBy (placedBy l f) (entriesBy l f) room
+
+-- the same for what is asked: where that is refused there are no entries, and its refusal is the answer
+abbrev pub entriesFor : Asked → List ℕ → List Entry
+entriesFor (aFlow fl) f = entriesBy (layoutFor fl) f
+entriesFor (noFlow r) f = []
+
+abbrev pub answerFor : Asked → List ℕ → ℕ → Indexed
+answerFor a f room = indexedBy (judgedFor a f) (entriesFor a f) room
 
 -- the papers' answers: an acceptance gives the records and the entries, a refusal its number, record, field and place
 pub data Reply : Type 0 where
@@ -128,18 +136,18 @@ abbrev pub paper : Indexed → Reply
 paper (Filled n m) = accepted n m
 paper (Refused r) = refused (r .number) (r .«record») (r .field) (r .place)
 
--- fill a lent list with the index of a file for a flow
-unfoldable pub indexed : List ℕ → List ℕ → ℕ → Reply
-indexed name f room = paper (answerFor name f room)
+-- fill a lent list with the index of a file for what is asked
+unfoldable pub indexed : Asked → List ℕ → ℕ → Reply
+indexed a f room = paper (answerFor a f room)
 
 -- the list once it has been lent for that
-unfoldable pub listed : List ℕ → List ℕ → List Entry → List Entry
-listed name f old = listBy (answerFor name f (length old)) (entriesFor name f) old
+unfoldable pub listed : Asked → List ℕ → List Entry → List Entry
+listed a f old = listBy (answerFor a f (length old)) (entriesFor a f) old
 
 -- a filling is right: what is said, and what the list holds at the end
-pub record FilledRight (name f : List ℕ) (old new : List Entry) (said : Indexed) : Type 0 where
-  pub says : paper said ≡ indexed name f (length old)
-  pub holds : new ≡ listed name f old
+pub record FilledRight (a : Asked) (f : List ℕ) (old new : List Entry) (said : Indexed) : Type 0 where
+  pub says : paper said ≡ indexed a f (length old)
+  pub holds : new ≡ listed a f old
 
 -- an entry as four numbers, and some entries, one after the other
 abbrev pub numbersOf : Entry → List ℕ
@@ -155,6 +163,6 @@ cellsBy (Refused r) es old = old
 cellsBy (Filled n m) es old = cellsOf es ++ drop (4 * m) old
 
 -- a filling of numbers is right: a list of so many numbers has room for a quarter as many entries
-pub record CellsRight (name f old new : List ℕ) (said : Indexed) : Type 0 where
-  pub says : paper said ≡ indexed name f (length old / 4)
-  pub holds : new ≡ cellsBy (answerFor name f (length old / 4)) (entriesFor name f) old
+pub record CellsRight (a : Asked) (f old new : List ℕ) (said : Indexed) : Type 0 where
+  pub says : paper said ≡ indexed a f (length old / 4)
+  pub holds : new ≡ cellsBy (answerFor a f (length old / 4)) (entriesFor a f) old

@@ -1,4 +1,5 @@
 // An index beside the file: entries in a lent list, one for each record that may have children.
+use flow::Named;
 use judge::Judged;
 use place::Refusal;
 use record::BAR;
@@ -9,9 +10,10 @@ ghost use mathlib.Core.Bool.{cond};
 ghost use mathlib.Core.List.{_++_};
 ghost use Prim.Native.Nat.{_<_, _≤_, _+_, _-_, _*_, _^_};
 ghost use lib.ListN.{length, set, take, drop};
-ghost use Rattle.flow.specs.Flows.{flowNamed};
-ghost use Rattle.index.specs.Entries.{kindsFor, kindsOf, mayHead, headsIn, entriesOf, entriesFor, FilledRight, numbersOf, CellsRight};
-ghost use Rattle.index.specs.Code.{entryAt, headsOf, scanned, entered, advanced, starting, parentIn, kindsIn, begun, stored, storedCells};
+ghost use Rattle.layout.specs.Numbers.{layoutOf};
+ghost use Rattle.flow.specs.Editions.{asked};
+ghost use Rattle.index.specs.Entries.{kindsOf, mayHead, headsIn, entriesOf, FilledRight, numbersOf, CellsRight};
+ghost use Rattle.index.specs.Code.{entryAt, headsOf, scanned, entered, advanced, starting, parentIn, kindsIn, begunBy, begun, HasKinds, stored, storedCells, CellsFilled};
 
 // An entry of an index: a record's number and byte place, its parent's entry, counted from 1 (itself where it has no parent), and how many
 // direct children it has.
@@ -201,35 +203,18 @@ pub fn advance(t: &[u32], f: &[u8], s: Filling) -> Filling
     }
 }
 
-// The numbers of a flow's table.
-pub fn numbers_for(flow: &[u8]) -> [u32; 110]
-    ensures { λ r. ⌜ kindsIn r ≡ kindsFor (flowNamed (now (flow .entry))) ⌝ }
+// The reader's refusal by a table, 19 where there is no room for all entries, or how many there are.
+fn begin_by(t: &[u32], fixed: &[u8], f: &[u8], room: usize) -> Begun
+    ensures { λ r. ⌜ r ≡ begunBy (layoutOf (now (t .entry)) (now (fixed .entry))) (now (f .entry)) room ⌝ }
 {
-    let table = flow::table_of(flow::flow_number(flow));
-    let numbers = table.numbers;
-    numbers
-}
-
-// How many records of a file may have children, by a flow's table.
-fn entries_for(flow: &[u8], f: &[u8]) -> usize
-    ensures { λ r. ⌜ r ≡ length (entriesFor (now (flow .entry)) (now (f .entry))) ⌝ }
-{
-    let t = numbers_for(flow);
-    let heads = heads_of(&t);
-    count_entries(&t, &heads, f)
-}
-
-// The reader's refusal, 19 where there is no room for all entries, or how many there are.
-pub fn begin(flow: &[u8], f: &[u8], room: usize) -> Begun
-    ensures { λ r. ⌜ r ≡ begun (now (flow .entry)) (now (f .entry)) room ⌝ }
-{
-    match judge::judge(flow, f) {
+    match judge::judge_by(t, fixed, f) {
         Judged::Refused(refusal) => Begun {
             answer: Indexed::Refused(refusal),
             count: 0,
         },
         Judged::Accepted(records) => {
-            let count = entries_for(flow, f);
+            let heads = heads_of(t);
+            let count = count_entries(t, &heads, f);
             if room < count {
                 return Begun {
                     answer: Indexed::Refused(place::whole(19)),
@@ -243,6 +228,38 @@ pub fn begin(flow: &[u8], f: &[u8], room: usize) -> Begun
                 },
                 count: count,
             }
+        }
+    }
+}
+
+// The same for the flow that the words ask for, whose refusal comes first.
+pub fn begin(flow: &[u8], f: &[u8], room: usize) -> Begun
+    ensures { λ r. ⌜ r ≡ begun (asked (now (flow .entry))) (now (f .entry)) room ⌝ }
+{
+    match flow::find(flow) {
+        Named::Refused(refusal) => Begun {
+            answer: Indexed::Refused(refusal),
+            count: 0,
+        },
+        Named::Flow(n) => {
+            let table = flow::table_of(n);
+            let numbers = table.numbers;
+            let fixed = table.fixed;
+            begin_by(&numbers, &fixed, f, room)
+        }
+    }
+}
+
+// The numbers of the table of the flow that the words ask for; noughts where they ask for none.
+pub fn numbers_for(flow: &[u8]) -> [u32; 110]
+    ensures { λ r. ⌜ HasKinds (asked (now (flow .entry))) (kindsIn r) ⌝ }
+{
+    match flow::find(flow) {
+        Named::Refused(_) => [0; 110],
+        Named::Flow(n) => {
+            let table = flow::table_of(n);
+            let numbers = table.numbers;
+            numbers
         }
     }
 }
@@ -264,7 +281,7 @@ pub fn fetch(list: &[Entry], i: usize) -> Entry
 }
 
 // Stores the first n entries of a file's index.
-fn fill_by(list: &mut [Entry], t: &[u32], f: &[u8], n: usize)
+fn store_first(list: &mut [Entry], t: &[u32], f: &[u8], n: usize)
     requires { ⌜ (n ≤ length (now list)) × n ≤ length (entriesOf (kindsIn (now t)) (now f)) ⌝ }
     ensures { λ _. ⌜ now (list .exit) ≡ stored (kindsIn (now (t .entry))) (now (f .entry)) n (now (list .entry)) ⌝ }
 {
@@ -278,14 +295,15 @@ fn fill_by(list: &mut [Entry], t: &[u32], f: &[u8], n: usize)
     }
 }
 
-// Fills a lent list with the index of a file for a flow. Any name, any bytes, any list.
+// Fills a lent list with the index of a file for the flow that the words ask for. Any words, any bytes, any list. All that branches stands in
+// `begin`, as a function over a list of entries is proved by a walk of its code.
 pub fn fill(flow: &[u8], f: &[u8], list: &mut [Entry]) -> Indexed
-    ensures { λ r. ⌜ FilledRight (now (flow .entry)) (now (f .entry)) (now (list .entry)) (now (list .exit)) r ⌝ }
+    ensures { λ r. ⌜ FilledRight (asked (now (flow .entry))) (now (f .entry)) (now (list .entry)) (now (list .exit)) r ⌝ }
 {
     let room = list.len();
     let b = begin(flow, f, room);
     let t = numbers_for(flow);
-    fill_by(list, &t, f, b.count);
+    store_first(list, &t, f, b.count);
     b.answer
 }
 
@@ -302,7 +320,7 @@ fn put(cells: &mut [u64], i: usize, e: Entry)
 }
 
 // Puts the first n entries of a file's index into cells.
-fn fill_cells_by(cells: &mut [u64], t: &[u32], f: &[u8], n: usize)
+fn put_first(cells: &mut [u64], t: &[u32], f: &[u8], n: usize)
     requires { ⌜ (4 * n ≤ length (now cells)) × n ≤ length (entriesOf (kindsIn (now t)) (now f)) ⌝ }
     ensures { λ _. ⌜ now (cells .exit) ≡ storedCells (kindsIn (now (t .entry))) (now (f .entry)) n (now (cells .entry)) ⌝ }
 {
@@ -315,12 +333,26 @@ fn fill_cells_by(cells: &mut [u64], t: &[u32], f: &[u8], n: usize)
     }
 }
 
-// The same as `fill` in numbers, four an entry, for callers who have no such struct; cells that are no four at the end are not used.
-pub fn fill_cells(flow: &[u8], f: &[u8], cells: &mut [u64]) -> Indexed
-    ensures { λ r. ⌜ CellsRight (now (flow .entry)) (now (f .entry)) (now (cells .entry)) (now (cells .exit)) r ⌝ }
+// Fills lent cells with the index of a file by a table, four an entry; cells that are no four at the end are not used.
+fn fill_cells_by(t: &[u32], fixed: &[u8], f: &[u8], cells: &mut [u64]) -> Indexed
+    ensures { λ r. ⌜ CellsFilled (layoutOf (now (t .entry)) (now (fixed .entry))) (now (f .entry)) (now (cells .entry)) (now (cells .exit)) r ⌝ }
 {
-    let b = begin(flow, f, cells.len() / 4);
-    let t = numbers_for(flow);
-    fill_cells_by(cells, &t, f, b.count);
+    let b = begin_by(t, fixed, f, cells.len() / 4);
+    put_first(cells, t, f, b.count);
     b.answer
+}
+
+// The same as `fill` in numbers, four an entry, for callers who have no such struct.
+pub fn fill_cells(flow: &[u8], f: &[u8], cells: &mut [u64]) -> Indexed
+    ensures { λ r. ⌜ CellsRight (asked (now (flow .entry))) (now (f .entry)) (now (cells .entry)) (now (cells .exit)) r ⌝ }
+{
+    match flow::find(flow) {
+        Named::Refused(refusal) => Indexed::Refused(refusal),
+        Named::Flow(n) => {
+            let table = flow::table_of(n);
+            let numbers = table.numbers;
+            let fixed = table.fixed;
+            fill_cells_by(&numbers, &fixed, f, cells)
+        }
+    }
 }

@@ -1,4 +1,4 @@
--- Demand 2: a file is accepted with n records exactly where it is right for the flow and has n records. Assumes nothing.
+-- Demand 2: a file is accepted with n records exactly where it is right for a proper flow and has n records. Assumes nothing.
 use Prim.Native.Nat.{ℕ, _+_, _-_, _≤_}
 use mathlib.Core.Path.{_≡_, refl, sym, ap, subst, _∙_}
 use mathlib.Core.Bool.{Bool, true, false, cond, not, _&&_, _||_, false≢true}
@@ -21,12 +21,14 @@ use Rattle.number.proofs.Digits.{and-left, and-right}
 use Rattle.layout.specs.Layout.{Rule, Layout, row, mayFollow, isFooter}
 use Rattle.grammar.specs.Table.{agrees}
 use Rattle.flow.specs.Publication.{Flow, names, layoutFor}
-use Rattle.flow.specs.Flows.{flows, flowAt, flowNamed, flowNumber, held, p0012}
-use Rattle.flow.proofs.Agree.{tables-agree, some-kind}
+use Rattle.flow.specs.Editions.{Asked, aFlow, noFlow, asked}
+use Rattle.flow.specs.Proper.{keyFits, Proper}
+use Rattle.flow.proofs.Proper.{ProperAsked}
+use Rattle.flow.proofs.Asking.{asked-proper}
 use Rattle.fault.specs.Fields.{fieldsFault}
 use Rattle.fault.specs.Record.{kindOf, footerFault}
 use Rattle.judge.specs.Record.{sumOf}
-use Rattle.judge.specs.File.{endsInFeed, judgedBy, verdict, withPlace, Reply, accepted, refused, paper, judged}
+use Rattle.judge.specs.File.{endsInFeed, judgedBy, withPlace, judgedFor, Reply, accepted, refused, paper, judged}
 use Rattle.judge.specs.Right.{kindIn, publishedAs, publishedFor, Typed, RightFor, Right}
 use Rattle.fault.specs.declared.Check.the-variants.{Fine, Fault}
 use Rattle.judge.specs.declared.Verdict.{Verdict}
@@ -37,7 +39,7 @@ use Rattle.judge.proofs.RightEach.{Each}
 use Rattle.judge.proofs.RightFields.{FineRecord, fine-each, is-typed, typed-is}
 use Rattle.judge.proofs.Passes.{Passes, passes, passed, must-accepted, bars, all-fine, last-spells}
 use Rattle.judge.proofs.RightKinds.{Placed, placed-under, under-placed, under-footer, footer-ends}
-use Rattle.judge.proofs.RightKeys.{published-fits, keyFits, rules-are, ascends-from, key-fine}
+use Rattle.judge.proofs.RightKeys.{published-fits, rules-are, ascends-from, key-fine}
 
 -- a line feed that is needed is there
 needed : (a b : Bool) → (not a || b) ≡ true → a ≡ true → b ≡ true
@@ -53,9 +55,8 @@ foot-right : (b c d : Bool) → (b ≡ true → (c ≡ true) × (d ≡ true)) �
 foot-right true c d h = rw (h refl .0, h refl .1)
 foot-right false c d h = refl
 
--- for a flow whose layout agrees with its grammar, with a last kind that nothing follows, and keys that are never empty
-module _ (fl : Flow) (ok : agrees (names (fl .kinds)) (mayFollow (layoutFor fl)) (fl .grammar) ≡ true) (some : 1 ≤ length (names (fl .kinds)))
-    (closed : row (layoutFor fl) (length (names (fl .kinds))) .next ≡ 0) (fit : all keyFits (fl .kinds) ≡ true) (f : List ℕ) (n : ℕ) where
+-- for a proper flow
+module _ (fl : Flow) (proper : Proper fl) (f : List ℕ) (n : ℕ) where
   abbrev l : Layout
   l = layoutFor fl
 
@@ -63,7 +64,7 @@ module _ (fl : Flow) (ok : agrees (names (fl .kinds)) (mayFollow (layoutFor fl))
   rs = records f
 
   key-fits : (r : List ℕ) → keyFits (publishedFor fl r) ≡ true
-  key-fits r = published-fits (fl .kinds) (kindIn r) fit
+  key-fits r = published-fits (fl .kinds) (kindIn r) (proper .keys)
 
   regroup : (b : List (List ℕ)) (q : List ℕ) (mid : List (List ℕ)) (r : List ℕ) (a : List (List ℕ)) → (b ++ q ∷ mid) ++ r ∷ a ≡ b ++ q ∷ (mid ++ r ∷ a)
   regroup b q mid r a = append-assoc b (q ∷ mid) (r ∷ a)
@@ -91,7 +92,7 @@ module _ (fl : Flow) (ok : agrees (names (fl .kinds)) (mayFollow (layoutFor fl))
         record {
           limit = p .limit;
           recordLimit = λ b r a e. fine b r a e .short;
-          grammar = placed-under fl ok some rs (λ b r a e. record { known = fine b r a e .known; follows = fine b r a e .follows }) (p .closes);
+          grammar = placed-under fl (proper .agree) (proper .some) rs (λ b r a e. record { known = fine b r a e .known; follows = fine b r a e .follows }) (p .closes);
           typed = has-type;
           keys = λ b q mid r a e s x y.
               let x′ = fine (b ++ q ∷ mid) r a (e ∙ sym (regroup b q mid r a)) in
@@ -108,14 +109,14 @@ module _ (fl : Flow) (ok : agrees (names (fl .kinds)) (mayFollow (layoutFor fl))
   -- what is right is accepted
   module _ (p : RightFor fl f n) where
     placed : Each (Placed l) [] rs
-    placed = under-placed fl ok some rs (p .grammar)
+    placed = under-placed fl (proper .agree) (proper .some) rs (p .grammar)
 
     closed-right : (b : List (List ℕ)) (r : List ℕ) (a : List (List ℕ)) → rs ≡ b ++ r ∷ a → footerFault bar l (length b) (sumOf bar b) (kindOf bar l r) r ≡ Fine
     unfolding footerFault
     closed-right b r a e =
         foot-right (isFooter l (kindOf bar l r)) (spelled (length b + 1) (field bar 2 r)) (spelled (sumOf bar b) (field bar 3 r))
         (λ h.
-        let whole : rs ≡ b ++ r ∷ [] = e ∙ ap (λ (t : List (List ℕ)). b ++ r ∷ t) (footer-ends fl ok some rs closed (p .grammar) b r a e h) in
+        let whole : rs ≡ b ++ r ∷ [] = e ∙ ap (λ (t : List (List ℕ)). b ++ r ∷ t) (footer-ends fl (proper .agree) (proper .some) rs (proper .closed) (p .grammar) b r a e h) in
         let z : length rs ≡ length b + 1 = ap length whole ∙ length-append b (r ∷ []) in (
           ap (λ (c : ℕ). spelled c (field bar 2 r)) (sym z) ∙ p .count b r whole,
           ap (λ (t : List (List ℕ)). spelled (checksum t) (field bar 3 r)) (bars b) ∙ p .checksum b r whole,
@@ -142,7 +143,7 @@ module _ (fl : Flow) (ok : agrees (names (fl .kinds)) (mayFollow (layoutFor fl))
           limit = p .limit;
           last = length rs;
           checked = fine-each l [] rs right-fine;
-          closes = under-footer fl ok some rs (p .grammar);
+          closes = under-footer fl (proper .agree) (proper .some) rs (p .grammar);
           feed = not-needed (fl .feed) (endsInFeed f) (λ h. eq-eqb _ _ (p .lastFeed h));
           count = sym (p .counted);
         }
@@ -150,14 +151,6 @@ module _ (fl : Flow) (ok : agrees (names (fl .kinds)) (mayFollow (layoutFor fl))
   -- a file is accepted for the flow exactly where it is right for it
   pub right-for : (judgedBy (layoutFor fl) f ≡ Accepted n) ↔ RightFor fl f n
   right-for = (λ e. accepted-right (passes (layoutFor fl) f n e), λ p. passed (layoutFor fl) f n (right-passes p))
-
--- each flow that we hold is such a flow, by one computed test over all of them
-flowFits : Flow → Bool
-flowFits fl = all keyFits (fl .kinds) && eqb (row (layoutFor fl) (length (names (fl .kinds))) .next) 0
-
-flow-fits : (n : ℕ) → T (flowFits (flowAt n))
-unfolding flowFits
-flow-fits n = all-at flowFits p0012 flows (tt {0}) (tt {0}) (n - 1)
 
 -- the answer that says this
 abbrev said : Reply → Judged
@@ -172,37 +165,45 @@ said-paper (answers.Refused r) = refl
 pub one-reply : (v w : Judged) → paper v ≡ paper w → v ≡ w
 one-reply v w e = same-said paper said said-paper v w e
 
+-- what the answer is where the papers' answer is an acceptance
+pub accepted-answer : (a : Asked) (f : List ℕ) (n : ℕ) → judged a f ≡ accepted n → judgedFor a f ≡ answers.Accepted n
+unfolding judged
+accepted-answer a f n e = one-reply (judgedFor a f) (answers.Accepted n) e
+
 -- the verdict before a refusal's place
 abbrev unplaced : Reply → Verdict
 unplaced (accepted n) = Accepted n
 unplaced (refused number r k place) = Refused number r k
 
+not-both : {number r k place n : ℕ} → refused number r k place ≡ accepted n → ⊥
+not-both e = let z : _≡_ {A = ℕ} 0 1 = cc in omega arith
+
 pub unplaced-paper : (sep : ℕ) (s : List ℕ) (v : Verdict) → unplaced (paper (withPlace sep s v)) ≡ v
 unplaced-paper sep s (Accepted n) = refl
 unplaced-paper sep s (Refused number r k) = refl
 
-module _ (name f : List ℕ) (n : ℕ) where
-  -- the flow of this name
-  named : (judgedBy (layoutFor (flowNamed name)) f ≡ Accepted n) ↔ RightFor (flowNamed name) f n
-  unfolding flowFits
-  named =
-      let fl = flowNamed name in
-      let e = is-true _ (flow-fits (flowNumber name)) in
-      right-for fl (tables-agree (flowNumber name)) (some-kind (flowNumber name))
-      (eqb-true _ _ (and-right (all keyFits (fl .kinds)) (eqb (row (layoutFor fl) (length (names (fl .kinds))) .next) 0) e))
-      (and-left (all keyFits (fl .kinds)) (eqb (row (layoutFor fl) (length (names (fl .kinds))) .next) 0) e) f n
+module _ (f : List ℕ) (n : ℕ) where
+  -- a file is accepted for what is asked where that is a flow, and the file is accepted by its layout
+  pub accepted-flow : (a : Asked) → judged a f ≡ accepted n → (fl : Flow) × (a ≡ aFlow fl) × (judgedBy (layoutFor fl) f ≡ Accepted n)
+  unfolding judged judgedFor
+  accepted-flow (aFlow fl) e = (fl, refl, sym (unplaced-paper bar f (judgedBy (layoutFor fl) f)) ∙ ap unplaced e)
+  accepted-flow (noFlow r) e = absurd (not-both e)
 
-  to-right : judged name f ≡ accepted n → Right name f n
-  unfolding judged verdict
-  to-right e =
-      let v : verdict name f ≡ Accepted n = sym (unplaced-paper bar f (verdict name f)) ∙ ap unplaced e in
-      let p = must-accepted (held name) 1 0 0 n (judgedBy (layoutFor (flowNamed name)) f) v in
-      record { isHeld = p .0; file = named .0 (p .1) }
+  pub flow-accepted : (fl : Flow) → judgedBy (layoutFor fl) f ≡ Accepted n → judged (aFlow fl) f ≡ accepted n
+  unfolding judged judgedFor
+  flow-accepted fl e = rw e
 
-  from-right : Right name f n → judged name f ≡ accepted n
-  unfolding judged verdict
-  from-right p = rw (p .isHeld, named .1 (p .file))
+  -- demand 2, for whatever is asked that is proper
+  pub right-asked : (a : Asked) → ProperAsked a → (judged a f ≡ accepted n) ↔ Right a f n
+  right-asked a p = (
+    λ e.
+        let x = accepted-flow a e in
+        record { flow = x .0; isHeld = x .1; file = right-for (x .0) (subst ProperAsked (x .1) p) f n .0 (x .2) },
+    λ r.
+        ap (λ (x : Asked). judged x f) (r .isHeld)
+        ∙ flow-accepted (r .flow) (right-for (r .flow) (subst ProperAsked (r .isHeld) p) f n .1 (r .file)),
+  )
 
-  -- demand 2
-  pub demand2 : (judged name f ≡ accepted n) ↔ Right name f n
-  demand2 = (to-right, from-right)
+  -- so for each flow and edition that we hold
+  pub demand2 : (words : List ℕ) → (judged (asked words) f ≡ accepted n) ↔ Right (asked words) f n
+  demand2 words = right-asked (asked words) (asked-proper words)

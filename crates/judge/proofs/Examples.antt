@@ -18,10 +18,11 @@ use Rattle.place.specs.Places.{fieldStart, placeAt}
 use Rattle.layout.specs.Layout.{among, find}
 use Rattle.flow.specs.Letters.{P0012001, P0133001, P0138001}
 use Rattle.flow.specs.Flows.{flowNumber}
+use Rattle.flow.specs.Editions.{usual, asked}
 use Rattle.fault.specs.Fields.{fieldFault, fieldsFault}
 use Rattle.fault.specs.Record.{placeFault, shapeFault, keyFault, footerFault, kindFault}
 use Rattle.judge.specs.Record.{lastKind, keyWith, keyBefore, fault}
-use Rattle.judge.specs.File.{checkedFrom, ended, judgedBy, verdict, judged, Reply, accepted, refused}
+use Rattle.judge.specs.File.{checkedFrom, ended, judgedBy, judgedFor, judged, Reply, accepted, refused}
 
 -- lines with a line feed after each
 abbrev lines : List String → List ℕ
@@ -42,7 +43,7 @@ pub data Case : Type 0 where
 pub given : List Case → List Said
 given [] = []
 given (size f n ∷ cs) = ofBytes (length f) ∷ given cs
-given (file flow f r ∷ cs) = ofFile (judged flow f) ∷ given cs
+given (file flow f r ∷ cs) = ofFile (judged (asked flow) f) ∷ given cs
 given (aField t s r ∷ cs) = ofField (fieldJudged t bare (bytes s)) ∷ given cs
 
 pub expected : List Case → List Said
@@ -88,11 +89,14 @@ table =
     ∷ aField Date "2024229" (refusedAs 8 0 0 0)
     -- P0133: ZHD then ZPT alone
     ∷ file P0133001 (lines ("ZHD|P0133001|Z|SVAA|Z|POOL|20240105120000" ∷ "ZPT|2|89220381" ∷ [])) (accepted 2)
+    -- and so in each edition (document 02, C-16)
+    ∷ file (bytes "P0133001 533") (lines ("ZHD|P0133001|Z|SVAA|Z|POOL|20240105120000" ∷ "ZPT|2|89220381" ∷ [])) (accepted 2)
+    ∷ file (bytes "P0133001 711") (lines ("ZHD|P0133001|Z|SVAA|Z|POOL|20240105120000" ∷ "ZPT|2|89220381" ∷ [])) (accepted 2)
     -- P0012: GSP followed by GS2
     ∷ file P0012001 (lines ("ZHD|P0012001|G|SVAA|Z|POOL|20240105120000" ∷ "ZPD|20240105|||1|SF" ∷ "HDR|1|_A|1" ∷ "GSP|1|1|1.0000" ∷ "GS2|2|0|1.0000" ∷ [])) (refused 5 5 1 88)
     ∷ []
 
 -- each is judged as document 01 says
 pub p-cases : given table ≡ expected table
-unfolding given expected table joined onto records fields field extent turned words addRecord checksum minus unsigned plain intForm intValue decForm decValue spelled leap daysIn isDay isDate isTime textForm periodRange form range valueOf widthRight filled fieldAnswer judgedAs fieldJudged among find flowNumber isDigit isText fieldFault fieldsFault lastKind keyWith keyBefore placeFault shapeFault keyFault footerFault kindFault fault checkedFrom ended judgedBy verdict fieldStart placeAt judged
+unfolding given expected table joined onto records fields field extent turned words addRecord checksum minus unsigned plain intForm intValue decForm decValue spelled leap daysIn isDay isDate isTime textForm periodRange form range valueOf widthRight filled fieldAnswer judgedAs fieldJudged among find flowNumber isDigit isText fieldFault fieldsFault lastKind keyWith keyBefore placeFault shapeFault keyFault footerFault kindFault fault checkedFrom ended judgedBy asked usual judgedFor fieldStart placeAt judged
 p-cases = refl

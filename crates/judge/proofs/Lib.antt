@@ -7,5 +7,6 @@ pub mod Passes
 pub mod RightKinds
 pub mod RightKeys
 pub mod Demand2
+pub mod Editions
 pub mod Examples
 pub mod Flows

@@ -21,10 +21,11 @@ use Rattle.number.proofs.ByValue.{or-right}
 use Rattle.layout.specs.Layout.{KindRow, Layout, row, kindNamed}
 use Rattle.layout.proofs.Names.{found-row}
 use Rattle.grammar.specs.Table.{rowOf}
-use Rattle.flow.specs.Publication.{Flow, PublishedKind, names, null, rowFor, layoutFor}
+use Rattle.flow.specs.Publication.{Flow, PublishedKind, names, null, rowFor, layoutFor, keyTypeFor}
+use Rattle.flow.specs.Proper.{keyFits}
 use Rattle.fault.specs.Record.{kindOf, keyIn, keyType, keysInOrder, ascending, keyFault}
 use Rattle.judge.specs.Record.{keyWith, keyBefore}
-use Rattle.judge.specs.Right.{kindIn, NoneOfKind, publishedAs, publishedFor, Typed, keyTypeFor, KeysInOrder, Ascends}
+use Rattle.judge.specs.Right.{kindIn, NoneOfKind, publishedAs, publishedFor, Typed, KeysInOrder, Ascends}
 use Rattle.fault.specs.declared.Check.the-variants.{Fine}
 use Rattle.judge.proofs.RightEach.{Each, each-first, each-rest}
 use Rattle.judge.proofs.RightFields.{must-fine, fine-must, filled-right}
@@ -134,13 +135,7 @@ module _ (fl : Flow) (r : List ℕ) (known : kindOf bar (layoutFor fl) r ≡ 0 �
       latest-go x xs old (foldl (keyWith bar l k) (keyWith bar l k old x) xs) (eqb (kindOf bar l x) (row l k .head)) (eqb (kindOf bar l x) k) refl refl
       (latest xs (keyWith bar l k old x))
 
--- a key is never empty: its field is there, is not null and not marked opt; and its set is headed by another kind
-abbrev pub keyFits : PublishedKind → Bool
-keyFits p =
-    eqb (p .key) 0
-    || (leb 2 (p .key) && (leb (p .key - 1) (length (p .fields)) && (not (mayBeEmpty (getD (p .fields) (p .key - 2) null .mark))
-    && (not (isNull (keyTypeFor p)) && not (sameBytes (p .name) (p .within))))))
-
+-- the published kind of any name has such a key
 fit-go : (b : Bool) (p q : PublishedKind) → keyFits p ≡ true → keyFits q ≡ true → keyFits (cond b p q) ≡ true
 fit-go true p q h k = h
 fit-go false p q h k = k

@@ -9,7 +9,7 @@ use Rattle.record.specs.Records.{records, bar}
 use Rattle.place.specs.Places.{refusalAt}
 use Rattle.layout.specs.Layout.{Layout, isFooter}
 use Rattle.flow.specs.Publication.{layoutFor}
-use Rattle.flow.specs.Flows.{held, flowNamed}
+use Rattle.flow.specs.Editions.{Asked, aFlow, noFlow}
 use Rattle.judge.specs.Record.{lastKind, fault}
 use Rattle.fault.specs.declared.Check.{Check}
 use Rattle.fault.specs.declared.Check.the-variants.{Fine, Fault}
@@ -50,14 +50,19 @@ judgedBy l f =
     must (leb (length f) 1048576) (Refused 2 0 0)
     (finish (checkedFrom bar l [] (records f)) (ended l (length (records f)) (lastKind bar l (records f)) (endsInFeed f)))
 
--- a file for a flow: 1 where we hold no such flow
-unfoldable pub verdict : List ℕ → List ℕ → Verdict
-verdict name f = must (held name) (Refused 1 0 0) (judgedBy (layoutFor (flowNamed name)) f)
-
 -- a verdict with its refusal's place in the bytes that were handed over, their fields parted by sep
 abbrev pub withPlace : ℕ → List ℕ → Verdict → Judged
 withPlace sep s (Accepted n) = answers.Accepted n
 withPlace sep s (Refused number r k) = answers.Refused (refusalAt sep s number r k)
+
+-- a file by a layout, with its refusal's place
+abbrev pub placedBy : Layout → List ℕ → Judged
+placedBy l f = withPlace bar f (judgedBy l f)
+
+-- a file for what is asked: the refusal of what is asked comes first, and points at no byte of the file
+unfoldable pub judgedFor : Asked → List ℕ → Judged
+judgedFor (aFlow fl) f = placedBy (layoutFor fl) f
+judgedFor (noFlow r) f = answers.Refused r
 
 -- the papers' answers: an acceptance gives the number of records, a refusal its number, record, field and place
 pub data Reply : Type 0 where
@@ -69,6 +74,6 @@ abbrev pub paper : Judged → Reply
 paper (answers.Accepted n) = accepted n
 paper (answers.Refused r) = refused (r .number) (r .«record») (r .field) (r .place)
 
--- judge a file for a flow
-unfoldable pub judged : List ℕ → List ℕ → Reply
-judged name f = paper (withPlace bar f (verdict name f))
+-- judge a file for what is asked
+unfoldable pub judged : Asked → List ℕ → Reply
+judged a f = paper (judgedFor a f)

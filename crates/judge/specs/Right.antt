@@ -17,8 +17,8 @@ use Rattle.field.specs.declared.FieldType.{FieldType}
 use Rattle.field.specs.declared.FieldAnswer.the-variants as answers
 use Rattle.layout.specs.Layout.{Rule}
 use Rattle.grammar.specs.Sets.{Under}
-use Rattle.flow.specs.Publication.{Flow, PublishedKind, kind, null}
-use Rattle.flow.specs.Flows.{held, flowNamed}
+use Rattle.flow.specs.Publication.{Flow, PublishedKind, kind, null, keyTypeFor}
+use Rattle.flow.specs.Editions.{Asked, aFlow}
 
 -- the kind of a record is its first field
 abbrev pub kindIn : List ℕ → List ℕ
@@ -46,10 +46,6 @@ Meets rule s = (number : ℕ) → fieldAnswer (rule .type) (rule .mark) s ≡ an
 pub record Typed (rules : List Rule) (r : List ℕ) : Type 0 where
   pub fieldCount : length (fields bar r) ≡ length rules + 1
   pub eachField : (i : ℕ) → i < length rules → Meets (getD rules i null) (field bar (i + 2) r)
-
--- the type of a kind's key field
-abbrev pub keyTypeFor : PublishedKind → FieldType
-keyTypeFor k = getD (k .fields) (k .key - 2) null .type
 
 -- a key that may repeat does not fall; any other rises
 abbrev pub KeysInOrder : Bool → Order → Type 0
@@ -86,9 +82,10 @@ pub record RightFor (flow : Flow) (f : List ℕ) (n : ℕ) : Type 0 where
   -- n is the number of records
   pub counted : n ≡ length (records f)
 
--- a file of n records is right for the flow of this name
-pub record Right (name f : List ℕ) (n : ℕ) : Type 0 where
-  -- we hold the flow
-  pub isHeld : held name ≡ true
+-- a file of n records is right for what is asked
+pub record Right (a : Asked) (f : List ℕ) (n : ℕ) : Type 0 where
+  -- that is a flow that we hold
+  pub flow : Flow
+  pub isHeld : a ≡ aFlow flow
   -- the file is right for it
-  pub file : RightFor (flowNamed name) f n
+  pub file : RightFor flow f n

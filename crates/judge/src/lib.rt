@@ -1,6 +1,7 @@
 // A file judged for a flow: its records one after the other, and then its end.
 use fault::Outcome;
 use fault::State;
+use flow::Named;
 use place::Refusal;
 use record::BAR;
 use record::Cursor;
@@ -14,7 +15,8 @@ ghost use lib.ListN.{length, set};
 ghost use Rattle.text.specs.Characters.{IsClassTable};
 ghost use Rattle.record.specs.Records.{bar};
 ghost use Rattle.layout.specs.Numbers.{layoutOf};
-ghost use Rattle.judge.specs.File.{endsInFeed, ended as endedOf, judgedBy, withPlace, judged, paper};
+ghost use Rattle.flow.specs.Editions.{asked};
+ghost use Rattle.judge.specs.File.{endsInFeed, ended as endedOf, judgedBy, withPlace, placedBy, judged, paper};
 ghost use Rattle.judge.specs.Code.{WalkRight};
 
 // What is said of a file: accepted with its number of records, or refused.
@@ -134,7 +136,7 @@ fn ended(t: &[u32], st: State, f: &[u8]) -> Verdict
 }
 
 // A file by a table: 2, then its records, then its end.
-pub fn judge_by(t: &[u32], fixed: &[u8], f: &[u8]) -> Verdict
+fn verdict_by(t: &[u32], fixed: &[u8], f: &[u8]) -> Verdict
     ensures { λ v. ⌜ v ≡ judgedBy (layoutOf (now (t .entry)) (now (fixed .entry))) (now (f .entry)) ⌝ }
 {
     if 1048576 < f.len() {
@@ -173,16 +175,24 @@ fn with_place(f: &[u8], v: Verdict) -> Judged
     }
 }
 
-// A file for a flow: any name, any bytes.
-pub fn judge(flow: &[u8], f: &[u8]) -> Judged
-    ensures { λ v. ⌜ paper v ≡ judged (now (flow .entry)) (now (f .entry)) ⌝ }
+// A file by a table, with its refusal's place.
+pub fn judge_by(t: &[u32], fixed: &[u8], f: &[u8]) -> Judged
+    ensures { λ v. ⌜ v ≡ placedBy (layoutOf (now (t .entry)) (now (fixed .entry))) (now (f .entry)) ⌝ }
 {
-    let n = flow::flow_number(flow);
-    if n == 0 {
-        return Judged::Refused(place::whole(1));
+    with_place(f, verdict_by(t, fixed, f))
+}
+
+// A file for the flow that the words ask for. Any words, any bytes.
+pub fn judge(flow: &[u8], f: &[u8]) -> Judged
+    ensures { λ v. ⌜ paper v ≡ judged (asked (now (flow .entry))) (now (f .entry)) ⌝ }
+{
+    match flow::find(flow) {
+        Named::Refused(refusal) => Judged::Refused(refusal),
+        Named::Flow(n) => {
+            let table = flow::table_of(n);
+            let numbers = table.numbers;
+            let fixed = table.fixed;
+            judge_by(&numbers, &fixed, f)
+        }
     }
-    let table = flow::table_of(n);
-    let numbers = table.numbers;
-    let fixed = table.fixed;
-    with_place(f, judge_by(&numbers, &fixed, f))
 }

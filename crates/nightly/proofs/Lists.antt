@@ -8,9 +8,9 @@ use lib.Dec.{leb}
 use lib.ListN.{length}
 use borrow.Author.Tests.{leb-true}
 use Rattle.text.specs.Rules.{must}
-use Rattle.record.specs.Records.{bar}
 use Rattle.place.specs.Places.{whole}
-use Rattle.judge.specs.File.{verdict, withPlace}
+use Rattle.flow.specs.Editions.{Asked}
+use Rattle.judge.specs.File.{judgedFor}
 use Rattle.judge.specs.declared.Judged.{Judged}
 use Rattle.judge.specs.declared.Judged.the-variants as files
 use Rattle.index.specs.Entries.{paper, indexedBy, indexed, answerFor, entriesFor, CellsRight}
@@ -36,10 +36,10 @@ same-stands cells (Refused r) b e h = tt
 same-stands cells (Filled n m) (Filled k l) e h = let q : m ≡ l = cc in omega (arith, q)
 same-stands cells (Filled n m) (Refused r) e h = let z : _≡_ {A = ℕ} 0 1 = cc in absurd (omega arith)
 
-pub filled-stands : {name f old new : List ℕ} {said : Indexed} (cells : List ℕ) → length old ≤ length cells
-    → CellsRight name f old new said → StandIn cells said
+pub filled-stands : {a : Asked} {f old new : List ℕ} {said : Indexed} (cells : List ℕ) → length old ≤ length cells
+    → CellsRight a f old new said → StandIn cells said
 unfolding indexed
-filled-stands {name} {f} {old} {new} {said} cells h right =
+filled-stands {a} {f} {old} {new} {said} cells h right =
     let room = length old / 4 in
-    same-stands cells said (answerFor name f room) (right .says)
-    (answer-stands cells room (omega arith) (withPlace bar f (verdict name f)) (entriesFor name f))
+    same-stands cells said (answerFor a f room) (right .says)
+    (answer-stands cells room (omega arith) (judgedFor a f) (entriesFor a f))

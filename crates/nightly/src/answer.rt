@@ -50,7 +50,7 @@ fn sum_line(bytes: &[u8]) -> bool {
 fn step_line(flow: &[u8], kinds: &[u8]) -> bool {
     let mut follow = [0u8; 96];
     match flow::step(flow, kinds, &mut follow) {
-        StepAnswer::Refused(number) => print_refusal(place::whole(number as usize)),
+        StepAnswer::Refused(refusal) => print_refusal(refusal),
         StepAnswer::Stopped(place) => print_numbers(b"stopped", &[0, place, 0]),
         StepAnswer::Through { count, complete } => print_follow(count, complete, &follow),
     }
@@ -82,7 +82,7 @@ fn making_line(making: Making, flow: &[u8], body: &[u8], room: &mut [u8]) -> boo
     }
 }
 
-// Answers a case: what is asked, the flow that its header names, the fixed value and the body behind it, and room for a result.
+// Answers a case: what is asked, the words by which its header asks for a flow, the fixed value and the body behind it, and room for a result.
 pub fn answer(ask: Ask, flow: &[u8], fixed: &[u8], body: &[u8], room: &mut [u8]) -> bool {
     match ask {
         Ask::Judge => printing::print_judged(judge::judge(flow, body)),

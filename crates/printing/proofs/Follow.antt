@@ -1,27 +1,28 @@
--- The kinds that may follow are some of a flow's kinds, and no flow has more than six. Assumes nothing.
-use Prim.Native.Nat.{ℕ, zero, suc, _-_, _≤_}
+-- The kinds that may follow are some of a flow's kinds, and a proper flow has at most 32 of them. Assumes nothing.
+use Prim.Native.Nat.{ℕ, _≤_}
+use mathlib.Core.Path.{_≡_}
 use mathlib.Core.Bool.{Bool}
 use mathlib.Core.List.{List}
 use native.Mathlib.Omega.{arith}
-use lib.ListN.{length, getD}
-use Rattle.flow.specs.Publication.{names}
-use Rattle.flow.specs.Flows.{flows, p0012, flowAt}
-use Rattle.flow.specs.Step.{Chosen, none, takes, passes, WentThrough}
+use lib.ListN.{length}
+use Rattle.flow.specs.Publication.{Flow}
+use Rattle.flow.specs.Editions.{Asked, aFlow, noFlow}
+use Rattle.flow.specs.Proper.{Proper}
+use Rattle.flow.specs.Step.{Chosen, none, takes, passes, WentThrough, StepRight}
+use Rattle.flow.specs.declared.StepAnswer.the-variants.{Through}
+use Rattle.flow.proofs.Proper.{ProperAsked}
 
 no-more : {P : List ℕ → Type 0} {ks out : List (List ℕ)} → Chosen P ks out → length out ≤ length ks
 no-more none = omega arith
 no-more (takes p c) = omega (arith, no-more c)
 no-more (passes p c) = omega (arith, no-more c)
 
-few : (n : ℕ) → length (names (getD flows n p0012 .kinds)) ≤ 6
-few zero = omega arith
-few (suc zero) = omega arith
-few (suc (suc zero)) = omega arith
-few (suc (suc (suc zero))) = omega arith
-few (suc (suc (suc (suc zero)))) = omega arith
-few (suc (suc (suc (suc (suc zero))))) = omega arith
-few (suc (suc (suc (suc (suc (suc n)))))) = omega arith
+through-few : (fl : Flow) → Proper fl → {ks : List (List ℕ)} {count : ℕ} {complete : Bool} {old new : List ℕ} →
+    WentThrough fl ks count complete old new → count ≤ 32
+through-few fl p w = omega (arith, w .listed .counted, no-more (w .chosen), p .few)
 
-pub follow-few : (n : ℕ) {ks : List (List ℕ)} {count : ℕ} {complete : Bool} {old new : List ℕ} →
-    WentThrough (flowAt n) ks count complete old new → count ≤ 32
-follow-few n w = omega (arith, w .listed .counted, no-more (w .chosen), few (n - 1))
+-- so where a list of kinds went through for what is asked, few may follow; a refusal of what is asked is no such answer
+pub follow-few : (a : Asked) → ProperAsked a → {count : ℕ} (kinds : List ℕ) (complete : Bool) (old new : List ℕ) →
+    StepRight a kinds (Through count complete) old new → count ≤ 32
+follow-few (aFlow fl) p kinds complete old new w = through-few fl p w
+follow-few (noFlow r) p kinds complete old new w = let e = w .0 in let z : _≡_ {A = ℕ} 0 1 = cc in absurd (omega arith)

@@ -1,4 +1,4 @@
--- Each refusal of a file, a sheet or a text has the place of its record and field. Assumes nothing.
+-- Each refusal of a file, a sheet, a text or a list of kinds has the place of its record and field. Assumes nothing.
 use Prim.Native.Nat.{ℕ}
 use mathlib.Core.Path.{_≡_, refl, sym, subst}
 use mathlib.Core.Bool.{Bool, true, false, not, cond}
@@ -12,21 +12,25 @@ use Rattle.place.specs.Places.{recordAt, placeAt, refusalAt, whole}
 use Rattle.place.specs.declared.Refusal.{Refusal}
 use Rattle.place.proofs.Points.{at-zero}
 use Rattle.pointing.specs.Shown.{Placed}
-use Rattle.flow.specs.Publication.{layoutFor}
-use Rattle.flow.specs.Flows.{held, flowNamed}
+use Rattle.flow.specs.Publication.{Flow, layoutFor}
+use Rattle.flow.specs.Editions.{Asked, aFlow, noFlow, asked}
+use Rattle.flow.specs.Step.{StepRight}
+use Rattle.flow.specs.declared.StepAnswer.the-variants as steps
+use Rattle.flow.proofs.Asking.{asked-whole}
 use Rattle.field.specs.declared.FieldAnswer.{FieldAnswer}
 use Rattle.field.specs.declared.FieldAnswer.the-variants as fields
-use Rattle.judge.specs.File.{verdict, withPlace, judged}
+use Rattle.judge.specs.File.{judgedBy, withPlace, judgedFor, judged}
 use Rattle.judge.specs.File.{paper as judgedPaper}
 use Rattle.judge.specs.declared.Verdict.{Verdict}
 use Rattle.judge.specs.declared.Verdict.the-variants as verdicts
+use Rattle.judge.specs.declared.Judged.{Judged}
 use Rattle.judge.specs.declared.Judged.the-variants as files
-use Rattle.value.specs.Value.{isThere, textAt, endOf, asValue, answerIn, fieldValue, ofAccepted, valueBy, valueIn, valued}
+use Rattle.value.specs.Value.{isThere, textAt, endOf, asValue, answerIn, fieldValue, ofAccepted, valueAt, valueBy, valueIn, valued}
 use Rattle.value.specs.Value.{paper as valuePaper}
 use Rattle.value.specs.declared.Value.{Value}
 use Rattle.value.specs.declared.Value.the-variants as values
 use Rattle.sheet.specs.Sheets.{tab, made, sheetOf, barLine}
-use Rattle.sheet.specs.Write.{linesEnded, asJudged, fitted, written, Wrote, Reply, done, refused}
+use Rattle.sheet.specs.Write.{linesEnded, asJudged, fitted, writtenBy, written, Wrote, Reply, done, refused}
 use Rattle.sheet.specs.Write.{paper as transferPaper}
 use Rattle.sheet.specs.Read.{readTo, Read}
 use Rattle.sheet.specs.declared.Transfer.{Transfer}
@@ -43,17 +47,56 @@ use Rattle.index.specs.declared.Indexed.the-variants as indexes
 use Rattle.rig.specs.Placed.{PlacedIn}
 
 -- a refusal of the whole
-pub whole-placed : (sep : ℕ) (s : List ℕ) (number : ℕ) → Placed sep s (whole number)
+whole-placed : (sep : ℕ) (s : List ℕ) (number : ℕ) → Placed sep s (whole number)
 whole-placed sep s number = sym (at-zero sep s 0 0 refl)
 
--- of a file that is judged
-file-placed : (f : List ℕ) (r : Refusal) (v : Verdict) → judgedPaper (files.Refused r) ≡ judgedPaper (withPlace bar f v) → Placed bar f r
-file-placed f r (verdicts.Accepted n) e = let z : _≡_ {A = ℕ} 0 1 = cc in absurd (omega arith)
-file-placed f r (verdicts.Refused number n k) e = cc
+-- of the words: it is one of the whole, whatever the bytes that were given with them
+abbrev PlacedAsked : ℕ → List ℕ → Asked → Type 0
+PlacedAsked sep s (aFlow fl) = Unit
+PlacedAsked sep s (noFlow r) = Placed sep s r
 
-pub judged-placed : (name f : List ℕ) (r : Refusal) → judgedPaper (files.Refused r) ≡ judged name f → Placed bar f r
+module _ (sep : ℕ) (s words : List ℕ) where
+  words-placed : (a : Asked) → asked words ≡ a → PlacedAsked sep s a
+  words-placed (aFlow fl) e = tt
+  words-placed (noFlow r) e = let w = asked-whole words r e in subst (Placed sep s) (sym (w .1)) (whole-placed sep s (w .0))
+
+  asked-placed : PlacedAsked sep s (asked words)
+  asked-placed = words-placed (asked words) refl
+
+-- of a file or a sheet that is judged
+abbrev PlacedJudged : ℕ → List ℕ → Judged → Type 0
+PlacedJudged sep s (files.Accepted n) = Unit
+PlacedJudged sep s (files.Refused r) = Placed sep s r
+
+verdict-placed : (sep : ℕ) (s : List ℕ) (v : Verdict) → PlacedJudged sep s (withPlace sep s v)
+verdict-placed sep s (verdicts.Accepted n) = tt
+verdict-placed sep s (verdicts.Refused number n k) = refl
+
+file-placed : (f : List ℕ) (a : Asked) → PlacedAsked bar f a → PlacedJudged bar f (judgedFor a f)
+unfolding judgedFor
+file-placed f (aFlow fl) h = verdict-placed bar f (judgedBy (layoutFor fl) f)
+file-placed f (noFlow r) h = h
+
+for-placed : (words f : List ℕ) → PlacedJudged bar f (judgedFor (asked words) f)
+for-placed words f = file-placed f (asked words) (asked-placed bar f words)
+
+same-judged : (f : List ℕ) (r : Refusal) (j : Judged) → judgedPaper (files.Refused r) ≡ judgedPaper j → PlacedJudged bar f j → Placed bar f r
+same-judged f r (files.Accepted n) e h = let z : _≡_ {A = ℕ} 0 1 = cc in absurd (omega arith)
+same-judged f r (files.Refused q) e h = cc
+
+pub judged-placed : (words f : List ℕ) (r : Refusal) → judgedPaper (files.Refused r) ≡ judged (asked words) f → Placed bar f r
 unfolding judged
-judged-placed name f r e = file-placed f r (verdict name f) e
+judged-placed words f r e = same-judged f r (judgedFor (asked words) f) e (for-placed words f)
+
+-- of a list of kinds
+step-placed : (sep : ℕ) (s : List ℕ) (a : Asked) (kinds : List ℕ) (r : Refusal) (old new : List ℕ) → PlacedAsked sep s a →
+    StepRight a kinds (steps.Refused r) old new → Placed sep s r
+step-placed sep s (aFlow fl) kinds r old new h w = absurd w
+step-placed sep s (noFlow x) kinds r old new h w = let e = w .0 in cc
+
+pub stepped-placed : (sep : ℕ) (s words kinds : List ℕ) (r : Refusal) (old new : List ℕ) →
+    StepRight (asked words) kinds (steps.Refused r) old new → Placed sep s r
+stepped-placed sep s words kinds r old new w = step-placed sep s (asked words) kinds r old new (asked-placed sep s words) w
 
 -- of a value that is asked
 abbrev PlacedValue : List ℕ → Value → Type 0
@@ -79,17 +122,20 @@ module _ (f : List ℕ) (n k : ℕ) where
   there-or-not true v h = h
   there-or-not false v h = refl
 
-  by-placed : (name : List ℕ) → PlacedValue f (valueBy (layoutFor (flowNamed name)) f n k)
-  unfolding valueBy fieldValue
-  by-placed name = there-or-not (isThere f n k) _ (kind-or-answer (eqb k 1) (answerIn (layoutFor (flowNamed name)) (recordAt f n) k))
+  at-placed : (fl : Flow) → PlacedValue f (valueAt (layoutFor fl) f n k)
+  unfolding valueAt fieldValue
+  at-placed fl = there-or-not (isThere f n k) _ (kind-or-answer (eqb k 1) (answerIn (layoutFor fl) (recordAt f n) k))
 
-  accepted-or-not : (j : Verdict) (v : Value) → PlacedValue f v → PlacedValue f (ofAccepted (withPlace bar f j) v)
-  accepted-or-not (verdicts.Accepted m) v h = h
-  accepted-or-not (verdicts.Refused number m j) v h = refl
+  accepted-or-not : (j : Judged) (v : Value) → PlacedJudged bar f j → PlacedValue f v → PlacedValue f (ofAccepted j v)
+  accepted-or-not (files.Accepted m) v g h = h
+  accepted-or-not (files.Refused r) v g h = g
 
-  in-placed : (name : List ℕ) → PlacedValue f (valueIn name f n k)
-  unfolding valueIn
-  in-placed name = accepted-or-not (verdict name f) (valueBy (layoutFor (flowNamed name)) f n k) (by-placed name)
+  in-placed : (a : Asked) → PlacedAsked bar f a → PlacedValue f (valueIn a f n k)
+  unfolding valueIn valueBy
+  in-placed (aFlow fl) h =
+      accepted-or-not (withPlace bar f (judgedBy (layoutFor fl) f)) (valueAt (layoutFor fl) f n k)
+      (verdict-placed bar f (judgedBy (layoutFor fl) f)) (at-placed fl)
+  in-placed (noFlow r) h = h
 
 same-value : (f : List ℕ) (r : Refusal) (v : Value) → valuePaper f (values.Refused r) ≡ valuePaper f v → PlacedValue f v → Placed bar f r
 same-value f r (values.Refused q) e h = cc
@@ -98,9 +144,9 @@ same-value f r (values.Number z) e h = let z : _≡_ {A = ℕ} 0 1 = cc in absur
 same-value f r (values.Truth b) e h = let z : _≡_ {A = ℕ} 0 1 = cc in absurd (omega arith)
 same-value f r (values.Text from to) e h = let z : _≡_ {A = ℕ} 0 1 = cc in absurd (omega arith)
 
-pub valued-placed : (name f : List ℕ) (n k : ℕ) (r : Refusal) → valuePaper f (values.Refused r) ≡ valued name f n k → Placed bar f r
+pub valued-placed : (words f : List ℕ) (n k : ℕ) (r : Refusal) → valuePaper f (values.Refused r) ≡ valued (asked words) f n k → Placed bar f r
 unfolding valued
-valued-placed name f n k r e = same-value f r (valueIn name f n k) e (in-placed f n k name)
+valued-placed words f n k r e = same-value f r (valueIn (asked words) f n k) e (in-placed f n k (asked words) (asked-placed bar f words))
 
 -- of an index
 abbrev PlacedIndex : List ℕ → Indexed → Type 0
@@ -112,13 +158,14 @@ module _ (f : List ℕ) (es : List Entry) (room : ℕ) where
   room-or-not true n = tt
   room-or-not false n = whole-placed bar f 19
 
-  read-or-not : (v : Verdict) → PlacedIndex f (indexedBy (withPlace bar f v) es room)
+  read-or-not : (j : Judged) → PlacedJudged bar f j → PlacedIndex f (indexedBy j es room)
   unfolding indexedBy
-  read-or-not (verdicts.Accepted n) = room-or-not (leb (length es) room) n
-  read-or-not (verdicts.Refused number n k) = refl
+  read-or-not (files.Accepted n) h = room-or-not (leb (length es) room) n
+  read-or-not (files.Refused r) h = h
 
-pub index-placed : (name f : List ℕ) (room : ℕ) (r : Refusal) → answerFor name f room ≡ indexes.Refused r → Placed bar f r
-index-placed name f room r e = subst (PlacedIndex f) e (read-or-not f (entriesFor name f) room (verdict name f))
+pub index-placed : (words f : List ℕ) (room : ℕ) (r : Refusal) → answerFor (asked words) f room ≡ indexes.Refused r → Placed bar f r
+index-placed words f room r e =
+    subst (PlacedIndex f) e (read-or-not f (entriesFor (asked words) f) room (judgedFor (asked words) f) (for-placed words f))
 
 -- of a sheet that is written, and of a file that is read or exported
 module _ (sep : ℕ) (s : List ℕ) where
@@ -129,36 +176,45 @@ module _ (sep : ℕ) (s : List ℕ) where
   fitted-placed : (room : ℕ) (result : List ℕ) (n : ℕ) → PlacedIn sep s (fitted room result n)
   fitted-placed room result n = first-failing (leb (length result) room) (whole 17) (Done n (length result)) (whole-placed sep s 17) tt
 
-  transfer-placed : (v : Verdict) (room : ℕ) (result : List ℕ) → PlacedIn sep s (asJudged (withPlace sep s v) (fitted room result))
-  transfer-placed (verdicts.Accepted n) room result = fitted-placed room result n
-  transfer-placed (verdicts.Refused number n k) room result = refl
+  transfer-placed : (j : Judged) → PlacedJudged sep s j → (room : ℕ) (result : List ℕ) → PlacedIn sep s (asJudged j (fitted room result))
+  transfer-placed (files.Accepted n) h room result = fitted-placed room result n
+  transfer-placed (files.Refused r) h room result = h
 
   same-transfer : (a t : Transfer) → transferPaper a ≡ transferPaper t → PlacedIn sep s t → PlacedIn sep s a
   same-transfer (Done n b) t e h = tt
   same-transfer (Refused r) (Done n b) e h = let z : _≡_ {A = ℕ} 0 1 = cc in absurd (omega arith)
   same-transfer (Refused r) (Refused q) e h = cc
 
-written-placed : (name sheet : List ℕ) (room : ℕ) → PlacedIn tab sheet (written name sheet room)
-unfolding written
-written-placed name sheet room =
-    first-failing tab sheet (held name) (whole 1) _ (whole-placed tab sheet 1)
-    (first-failing tab sheet (leb (length sheet) 1048000) (whole 2) _ (whole-placed tab sheet 2)
+sheet-placed : (fl : Flow) (sheet : List ℕ) (room : ℕ) → PlacedIn tab sheet (writtenBy (layoutFor fl) sheet room)
+unfolding writtenBy
+sheet-placed fl sheet room =
+    let v = judgedBy (layoutFor fl) (made sheet) in
+    first-failing tab sheet (leb (length sheet) 1048000) (whole 2) _ (whole-placed tab sheet 2)
     (first-failing tab sheet (not (holds bar sheet)) (refusalAt tab sheet 16 (barLine 1 (records sheet)) 0) _ refl
     (first-failing tab sheet (linesEnded sheet) (refusalAt tab sheet 15 (length (records sheet)) 0) _ refl
-    (transfer-placed tab sheet (verdict name (made sheet)) room (made sheet)))))
+    (transfer-placed tab sheet (withPlace tab sheet v) (verdict-placed tab sheet v) room (made sheet))))
 
-pub wrote-placed : {name sheet : List ℕ} {a : Transfer} {old new : List ℕ} → Wrote name sheet a old new → PlacedIn tab sheet a
-wrote-placed {name} {sheet} {a} {old} w = same-transfer tab sheet a (written name sheet (length old)) (w .says) (written-placed name sheet (length old))
+written-placed : (a : Asked) (sheet : List ℕ) (room : ℕ) → PlacedAsked tab sheet a → PlacedIn tab sheet (written a sheet room)
+unfolding written
+written-placed (aFlow fl) sheet room h = sheet-placed fl sheet room
+written-placed (noFlow r) sheet room h = h
 
-pub read-placed : {name f : List ℕ} {a : Transfer} {old new : List ℕ} → Read name f a old new → PlacedIn bar f a
+pub wrote-placed : (words sheet : List ℕ) {a : Transfer} {old new : List ℕ} → Wrote (asked words) sheet a old new → PlacedIn tab sheet a
+wrote-placed words sheet {a} {old} w =
+    same-transfer tab sheet a (written (asked words) sheet (length old)) (w .says)
+    (written-placed (asked words) sheet (length old) (asked-placed tab sheet words))
+
+pub read-placed : (words f : List ℕ) {a : Transfer} {old new : List ℕ} → Read (asked words) f a old new → PlacedIn bar f a
 unfolding readTo
-read-placed {name} {f} {a} {old} w =
-    same-transfer bar f a (readTo name f (length old)) (w .says) (transfer-placed bar f (verdict name f) (length old) (sheetOf f))
+read-placed words f {a} {old} w =
+    same-transfer bar f a (readTo (asked words) f (length old)) (w .says)
+    (transfer-placed bar f (judgedFor (asked words) f) (for-placed words f) (length old) (sheetOf f))
 
-pub exported-placed : {name f : List ℕ} {a : Transfer} {old new : List ℕ} → Exported name f a old new → PlacedIn bar f a
+pub exported-placed : (words f : List ℕ) {a : Transfer} {old new : List ℕ} → Exported (asked words) f a old new → PlacedIn bar f a
 unfolding exported
-exported-placed {name} {f} {a} {old} w =
-    same-transfer bar f a (exported name f (length old)) (w .says) (transfer-placed bar f (verdict name f) (length old) (exportOf f))
+exported-placed words f {a} {old} w =
+    same-transfer bar f a (exported (asked words) f (length old)) (w .says)
+    (transfer-placed bar f (judgedFor (asked words) f) (for-placed words f) (length old) (exportOf f))
 
 -- of a text that is imported
 abbrev PlacedReply : List ℕ → Reply → Type 0

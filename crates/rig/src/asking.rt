@@ -146,7 +146,7 @@ fn stop(flow: &[u8], kinds: &[u8], place: usize) -> Ending {
 fn step_by(flow: &[u8], kinds: &[u8]) -> Ending {
     let mut follow = [0u8; 96];
     match flow::step(flow, kinds, &mut follow) {
-        StepAnswer::Refused(number) => refuse(flow, BAR, b"", place::whole(number as usize)),
+        StepAnswer::Refused(r) => refuse(flow, BAR, b"", r),
         StepAnswer::Stopped(place) => stop(flow, kinds, place),
         StepAnswer::Through { count, complete } => {
             well(printing::print_follow(count, complete, &follow))
@@ -166,10 +166,10 @@ pub fn step_words() -> Ending {
 // explain NUMBER
 pub fn explain_word() -> Ending {
     let Number::Is(n) = number_word(2) else {
-        return hinder(b"NUMBER is 1 to 20");
+        return hinder(b"NUMBER is 1 to 21");
     };
     if !sentences::has_rule(n) {
-        return hinder(b"NUMBER is 1 to 20");
+        return hinder(b"NUMBER is 1 to 21");
     }
     well(sentences::explain(n))
 }

@@ -10,6 +10,7 @@ use lib.ListN.{length}
 use Rattle.text.specs.Rules.{must}
 use Rattle.field.specs.Judge as fields
 use Rattle.field.specs.Codes.{typeCoded, markCoded}
+use Rattle.flow.specs.Editions.{Asked}
 use Rattle.flow.specs.Step as steps
 use Rattle.judge.specs.File as files
 use Rattle.index.specs.Entries as indexes
@@ -17,6 +18,7 @@ use Rattle.value.specs.Value as values
 use Rattle.sheet.specs.Sheets.{made, sheetOf}
 use Rattle.sheet.specs.Write as writing
 use Rattle.sheet.specs.Read as reading
+use Rattle.sheet.specs.declared.Transfer.{Transfer}
 use Rattle.csv.specs.Export as exporting
 use Rattle.csv.specs.Import as importing
 
@@ -34,20 +36,22 @@ abbrev pub transferCells : writing.Reply → List ℕ
 transferCells (writing.done records bytes) = 0 ∷ records ∷ bytes ∷ 0 ∷ []
 transferCells (writing.refused number r f place) = refusalCells number r f place
 
--- a file written from a sheet: the cells, and every byte that was lent
-pub record WroteCells (name sheet cells old new : List ℕ) : Type 0 where
-  pub says : cells ≡ transferCells (writing.paper (writing.written name sheet (length old)))
-  pub leaves : new ≡ writing.output (writing.written name sheet (length old)) (made sheet) old
+-- what is handed over: the cells of the answer that is to be said, and every byte that was lent
+pub record HandedCells (said : Transfer) (result cells old new : List ℕ) : Type 0 where
+  pub says : cells ≡ transferCells (writing.paper said)
+  pub leaves : new ≡ writing.output said result old
 
--- a file read to a sheet: the cells, and every byte that was lent
-pub record ReadCells (name file cells old new : List ℕ) : Type 0 where
-  pub says : cells ≡ transferCells (writing.paper (reading.readTo name file (length old)))
-  pub leaves : new ≡ writing.output (reading.readTo name file (length old)) (sheetOf file) old
+-- a file written from a sheet
+abbrev pub WroteCells : Asked → List ℕ → List ℕ → List ℕ → List ℕ → Type 0
+WroteCells a sheet cells old new = HandedCells (writing.written a sheet (length old)) (made sheet) cells old new
 
--- a file exported as comma-separated text: the cells, and every byte that was lent
-pub record ExportedCells (name file cells old new : List ℕ) : Type 0 where
-  pub says : cells ≡ transferCells (writing.paper (exporting.exported name file (length old)))
-  pub leaves : new ≡ writing.output (exporting.exported name file (length old)) (exporting.exportOf file) old
+-- a file read to a sheet
+abbrev pub ReadCells : Asked → List ℕ → List ℕ → List ℕ → List ℕ → Type 0
+ReadCells a file cells old new = HandedCells (reading.readTo a file (length old)) (sheetOf file) cells old new
+
+-- a file exported as comma-separated text
+abbrev pub ExportedCells : Asked → List ℕ → List ℕ → List ℕ → List ℕ → Type 0
+ExportedCells a file cells old new = HandedCells (exporting.exported a file (length old)) (exporting.exportOf file) cells old new
 
 -- comma-separated text imported as a sheet: cell 1 is the number of lines; every byte that was lent
 pub record ImportedCells (text cells old new : List ℕ) : Type 0 where
@@ -109,9 +113,9 @@ stepCells (steps.stopped place) = 0 ∷ place ∷ 0 ∷ 0 ∷ []
 stepCells (steps.through count complete) = 0 ∷ 0 ∷ count ∷ flagOf complete ∷ []
 
 -- the cells are those of the step's right answer, and the lent names of kinds are right
-pub record Stepped (name kinds cells old new : List ℕ) : Type 0 where
+pub record Stepped (a : Asked) (kinds cells old new : List ℕ) : Type 0 where
   pub step : steps.Reply
-  pub right : steps.ReplyRight name kinds step old new
+  pub right : steps.ReplyRight a kinds step old new
   pub says : cells ≡ stepCells step
 
 -- an index: cell 1 is the number of records, cell 2 the number of entries
@@ -120,6 +124,6 @@ indexCells (indexes.accepted records entries) = 0 ∷ records ∷ entries ∷ 0 
 indexCells (indexes.refused number r f place) = refusalCells number r f place
 
 -- an index in lent cells, which have room for a quarter as many entries: the answer's cells, and every cell that was lent
-pub record FilledCells (name file cells old new : List ℕ) : Type 0 where
-  pub says : cells ≡ indexCells (indexes.indexed name file (length old / 4))
-  pub leaves : new ≡ indexes.cellsBy (indexes.answerFor name file (length old / 4)) (indexes.entriesFor name file) old
+pub record FilledCells (a : Asked) (file cells old new : List ℕ) : Type 0 where
+  pub says : cells ≡ indexCells (indexes.indexed a file (length old / 4))
+  pub leaves : new ≡ indexes.cellsBy (indexes.answerFor a file (length old / 4)) (indexes.entriesFor a file) old

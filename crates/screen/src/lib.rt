@@ -1,4 +1,5 @@
 // The ten public parts under C names. An answer is four numbers in a lent array: include/screen.h says what each cell holds.
+// A flow is asked for by words: its name, or that, a space and an edition.
 use field::FieldType;
 use field::Mark;
 use flow::StepAnswer;
@@ -14,6 +15,7 @@ ghost use lib.ListN.{length};
 ghost use Rattle.checksum.specs.Checksum.{checksumOf};
 ghost use Rattle.field.specs.Judge.{marked};
 ghost use Rattle.field.specs.Codes.{typeCoded, markCoded};
+ghost use Rattle.flow.specs.Editions.{asked};
 ghost use Rattle.flow.specs.Step.{paper as stepPaper};
 ghost use Rattle.index.specs.Entries.{paper as indexPaper};
 ghost use Rattle.judge.specs.File.{judged, paper as judgePaper};
@@ -46,7 +48,7 @@ fn judge_cells(v: Judged) -> [u64; 4]
 // Judges a file for a flow.
 #[no_mangle]
 pub extern "C" fn screen_judge(flow: &[u8], file: &[u8], answer: &mut [u64; 4])
-    ensures { λ _. ⌜ now (answer .exit) ≡ judgeCells (judged (now (flow .entry)) (now (file .entry))) ⌝ }
+    ensures { λ _. ⌜ now (answer .exit) ≡ judgeCells (judged (asked (now (flow .entry))) (now (file .entry))) ⌝ }
 {
     *answer = judge_cells(judge::judge(flow, file));
 }
@@ -64,7 +66,7 @@ fn transfer_cells(t: Transfer) -> [u64; 4]
 // Writes the file of a sheet for a flow into the lent bytes.
 #[no_mangle]
 pub extern "C" fn screen_write(flow: &[u8], sheet: &[u8], out: &mut [u8], answer: &mut [u64; 4])
-    ensures { λ _. ⌜ WroteCells (now (flow .entry)) (now (sheet .entry)) (now (answer .exit)) (now (out .entry)) (now (out .exit)) ⌝ }
+    ensures { λ _. ⌜ WroteCells (asked (now (flow .entry))) (now (sheet .entry)) (now (answer .exit)) (now (out .entry)) (now (out .exit)) ⌝ }
 {
     *answer = transfer_cells(sheet::write(flow, sheet, out));
 }
@@ -72,7 +74,7 @@ pub extern "C" fn screen_write(flow: &[u8], sheet: &[u8], out: &mut [u8], answer
 // Reads a file for a flow to a sheet in the lent bytes.
 #[no_mangle]
 pub extern "C" fn screen_read(flow: &[u8], file: &[u8], out: &mut [u8], answer: &mut [u64; 4])
-    ensures { λ _. ⌜ ReadCells (now (flow .entry)) (now (file .entry)) (now (answer .exit)) (now (out .entry)) (now (out .exit)) ⌝ }
+    ensures { λ _. ⌜ ReadCells (asked (now (flow .entry))) (now (file .entry)) (now (answer .exit)) (now (out .entry)) (now (out .exit)) ⌝ }
 {
     *answer = transfer_cells(sheet::read(flow, file, out));
 }
@@ -80,7 +82,7 @@ pub extern "C" fn screen_read(flow: &[u8], file: &[u8], out: &mut [u8], answer: 
 // Exports a file for a flow as comma-separated text in the lent bytes.
 #[no_mangle]
 pub extern "C" fn screen_export(flow: &[u8], file: &[u8], out: &mut [u8], answer: &mut [u64; 4])
-    ensures { λ _. ⌜ ExportedCells (now (flow .entry)) (now (file .entry)) (now (answer .exit)) (now (out .entry)) (now (out .exit)) ⌝ }
+    ensures { λ _. ⌜ ExportedCells (asked (now (flow .entry))) (now (file .entry)) (now (answer .exit)) (now (out .entry)) (now (out .exit)) ⌝ }
 {
     *answer = transfer_cells(csv::export(flow, file, out));
 }
@@ -126,7 +128,7 @@ fn value_cells(v: Value) -> [u64; 4]
 // Gives the value of a field of a file for a flow.
 #[no_mangle]
 pub extern "C" fn screen_value(flow: &[u8], file: &[u8], n: usize, k: usize, answer: &mut [u64; 4])
-    ensures { λ _. ⌜ now (answer .exit) ≡ valueCells (valued (now (flow .entry)) (now (file .entry)) n k) ⌝ }
+    ensures { λ _. ⌜ now (answer .exit) ≡ valueCells (valued (asked (now (flow .entry))) (now (file .entry)) n k) ⌝ }
 {
     *answer = value_cells(value::value_of(flow, file, n, k));
 }
@@ -196,7 +198,7 @@ fn step_cells(a: StepAnswer) -> [u64; 4]
     ensures { λ r. ⌜ r ≡ stepCells (stepPaper a) ⌝ }
 {
     match a {
-        StepAnswer::Refused(number) => [number as u64, 0, 0, 0],
+        StepAnswer::Refused(refusal) => refusal_cells(refusal),
         StepAnswer::Stopped(place) => [0, place as u64, 0, 0],
         StepAnswer::Through { count, complete } => [0, 0, count as u64, flag(complete)],
     }
@@ -210,7 +212,7 @@ pub extern "C" fn screen_step(
     follow: &mut [u8; 96],
     answer: &mut [u64; 4],
 )
-    ensures { λ _. ⌜ Stepped (now (flow .entry)) (now (kinds .entry)) (now (answer .exit)) (now (follow .entry)) (now (follow .exit)) ⌝ }
+    ensures { λ _. ⌜ Stepped (asked (now (flow .entry))) (now (kinds .entry)) (now (answer .exit)) (now (follow .entry)) (now (follow .exit)) ⌝ }
 {
     *answer = step_cells(flow::step(flow, kinds, follow));
 }
@@ -228,7 +230,7 @@ fn index_cells(i: Indexed) -> [u64; 4]
 // Fills the lent cells with the index of a file for a flow, four an entry.
 #[no_mangle]
 pub extern "C" fn screen_index(flow: &[u8], file: &[u8], cells: &mut [u64], answer: &mut [u64; 4])
-    ensures { λ _. ⌜ FilledCells (now (flow .entry)) (now (file .entry)) (now (answer .exit)) (now (cells .entry)) (now (cells .exit)) ⌝ }
+    ensures { λ _. ⌜ FilledCells (asked (now (flow .entry))) (now (file .entry)) (now (answer .exit)) (now (cells .entry)) (now (cells .exit)) ⌝ }
 {
     *answer = index_cells(index::fill_cells(flow, file, cells));
 }

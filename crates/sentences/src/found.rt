@@ -3,9 +3,11 @@
 use crate::form;
 use crate::heading;
 use crate::kinds;
+use crate::naming;
 use crate::refusals;
 use crate::say;
-use judge::Verdict;
+use flow::Named;
+use judge::Judged;
 use place::Refusal;
 use record::BAR;
 use record::FEED;
@@ -40,16 +42,36 @@ fn say_rule(t: &[u32], fixed: &[u8], kind: usize, found: &[u8], r: Refusal) -> b
     form::right_field(r.number, form, mark, value, found)
 }
 
-// How many fields there are, and how many there should be.
-fn say_field_count(t: &[u32], sep: u8, kind: usize, r: &[u8]) -> bool {
+// How many fields a kind has, its name among them.
+fn right_count(t: &[u32], kind: usize) -> usize {
     let rules = layout::rules_of(t, kind);
-    let right = rules.count + 1;
+    rules.count + 1
+}
+
+// Where a record has just the number of fields that its kind has for these words, says so: the sender may have meant that edition.
+fn say_where_right(words: &[u8], sep: u8, r: &[u8]) -> bool {
+    let Named::Flow(n) = flow::find(words) else {
+        return true;
+    };
+    let t = flow::table_of(n).numbers;
+    let kind = fault::kind_of(&t, sep, r);
+    let found = record::count_fields(sep, r);
+    if kind == 0 || right_count(&t, kind) != found {
+        return true;
+    }
+    print(b"; for `") && print(words) && print(b"` it has ") && say::number(found)
+}
+
+// How many fields there are, and how many there should be. P0133001 alone has a layout of its own in each edition.
+fn say_field_count(t: &[u32], sep: u8, kind: usize, r: &[u8]) -> bool {
     print(b"; found ")
         && say::number(record::count_fields(sep, r))
         && print(b" fields, and ")
         && print(&layout::name_of(t, kind))
         && print(b" has ")
-        && say::number(right)
+        && say::number(right_count(t, kind))
+        && say_where_right(b"P0133001 533", sep, r)
+        && say_where_right(b"P0133001 711", sep, r)
 }
 
 // The key before that of the refused record, and whether it may come again.
@@ -184,12 +206,8 @@ fn say_there(t: &[u32], records: usize, file: &[u8], r: Refusal) -> bool {
 // What is there to be asked of an accepted file.
 fn say_asked(t: &[u32], fixed: &[u8], file: &[u8], r: Refusal) -> bool {
     match judge::judge_by(t, fixed, file) {
-        Verdict::Accepted(n) => say_there(t, n, file, r),
-        Verdict::Refused {
-            number: _,
-            record: _,
-            field: _,
-        } => refusals::rule(r.number),
+        Judged::Accepted(n) => say_there(t, n, file, r),
+        Judged::Refused(_) => refusals::rule(r.number),
     }
 }
 
@@ -204,19 +222,15 @@ fn say_refusal(t: &[u32], fixed: &[u8], sep: u8, file: &[u8], r: Refusal) -> boo
         && say_footer_line(t, sep, file, r)
 }
 
-// That there is no such flow.
-fn say_no_flow(flow: &[u8]) -> bool {
-    print(b"The rule: ") && refusals::rule(1) && say::found(flow) && print(b".\n")
-}
-
 // The sentence on a refusal of a file, or of a sheet, whose fields are parted by tabs.
 pub fn about_file(flow: &[u8], sep: u8, file: &[u8], r: Refusal) -> bool {
-    let n = flow::flow_number(flow);
-    if n == 0 {
-        return say_no_flow(flow);
+    match flow::find(flow) {
+        Named::Refused(refusal) => naming::about_words(flow, refusal.number),
+        Named::Flow(n) => {
+            let table = flow::table_of(n);
+            let numbers = table.numbers;
+            let fixed = table.fixed;
+            say_refusal(&numbers, &fixed, sep, file, r) && print(b".\n")
+        }
     }
-    let table = flow::table_of(n);
-    let numbers = table.numbers;
-    let fixed = table.fixed;
-    say_refusal(&numbers, &fixed, sep, file, r) && print(b".\n")
 }

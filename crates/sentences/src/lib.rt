@@ -6,6 +6,7 @@ mod form;
 mod found;
 mod heading;
 mod kinds;
+mod naming;
 mod refusals;
 mod say;
 mod step;

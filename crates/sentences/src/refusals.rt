@@ -6,13 +6,13 @@ ghost use mathlib.Core.Path.{_≡_};
 ghost use Rattle.text.specs.Characters.{from-to};
 
 // The greatest refusal.
-const LAST: usize = 20;
+const LAST: usize = 21;
 
 // The rule that refusal n holds up, 1 to 9.
 fn early_rule(n: usize) -> bool {
     match n {
         1 => print(
-            b"the flow is one of P0012001, P0181002, P0133001, P0134001, P0138001 and P0164001",
+            b"the flow is one of P0012001, P0181002, P0133001, P0134001, P0138001 and P0164001, and nothing stands behind it but a space and an edition, 533 or 711",
         ),
         2 => print(
             b"a file has at most 1,048,576 bytes, and a sheet or a comma-separated text at most 1,048,000",
@@ -27,7 +27,7 @@ fn early_rule(n: usize) -> bool {
     }
 }
 
-// The rule that refusal n holds up, 10 to 20.
+// The rule that refusal n holds up, 10 to 21.
 fn late_rule(n: usize) -> bool {
     match n {
         10 => print(b"a fixed value is given as it is, and a null field is empty"),
@@ -48,8 +48,11 @@ fn late_rule(n: usize) -> bool {
             b"the record and field that are asked are there; a width is 1 to 512 for text, 1 to 18 for int, and for dec 2 to 18 and then 1 to one less",
         ),
         19 => print(b"the list has room for all entries of the index"),
-        _ => print(
+        20 => print(
             b"comma-separated text is that of RFC 4180: commas part the fields, a carriage return and a line feed (hex 0D 0A) end each line, but may be absent at the last, a field with a comma or a quotation mark stands between quotation marks, and each one in it is doubled; a field has bytes 32 to 126 alone: no tab, no line break",
+        ),
+        _ => print(
+            b"the edition behind a flow and a space is 533 or 711, and 533 where none is named; in 711 SB1 of P0133001 has no market sector, and all else is the same in both",
         ),
     }
 }
@@ -61,7 +64,7 @@ pub fn rule(n: usize) -> bool {
 
 // There is a refusal n.
 pub fn has_rule(n: usize) -> bool
-    ensures { λ r. ⌜ r ≡ from-to 1 20 n ⌝ }
+    ensures { λ r. ⌜ r ≡ from-to 1 21 n ⌝ }
 {
     if n < 1 {
         return false;

@@ -1,6 +1,8 @@
 // The sentence on a list of kinds that stopped.
 use crate::kinds;
+use crate::naming;
 use crate::say;
+use flow::Named;
 use stream::print;
 
 // Kind n of a list, counted from 1; no bytes where there is none.
@@ -23,20 +25,30 @@ fn say_stop(kind: &[u8]) -> bool {
 }
 
 // The kinds that may stand at a place of the list, by the one before it.
-fn say_next(flow: &[u8], list: &[u8], place: usize) -> bool {
-    let t = flow::table_of(flow::flow_number(flow)).numbers;
+fn say_next(t: &[u32], list: &[u8], place: usize) -> bool {
     if place < 2 {
-        return kinds::say_followers(&t, 0);
+        return kinds::say_followers(t, 0);
     }
-    kinds::say_followers(&t, layout::kind_named(&t, kind_in(list, place - 1)))
+    kinds::say_followers(t, layout::kind_named(t, kind_in(list, place - 1)))
 }
 
-// The sentence on a list that stopped at a place: what was found, and what may stand there.
-pub fn about_stop(flow: &[u8], list: &[u8], place: usize) -> bool {
+// The sentence on a list that stopped at a place, by the flow's table: what was found, and what may stand there.
+fn say_place(t: &[u32], list: &[u8], place: usize) -> bool {
     print(b"In kind ")
         && say::number(place)
         && print(b" of the list: found ")
         && say_stop(kind_in(list, place))
-        && say_next(flow, list, place)
+        && say_next(t, list, place)
         && print(b".\n")
+}
+
+// The sentence on a list that stopped at a place.
+pub fn about_stop(flow: &[u8], list: &[u8], place: usize) -> bool {
+    match flow::find(flow) {
+        Named::Refused(refusal) => naming::about_words(flow, refusal.number),
+        Named::Flow(n) => {
+            let t = flow::table_of(n).numbers;
+            say_place(&t, list, place)
+        }
+    }
 }

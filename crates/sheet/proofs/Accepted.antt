@@ -1,6 +1,6 @@
--- What it says of a file that the verdict accepts it for a flow. Assumes nothing.
+-- What it says of a file that it is accepted for what is asked. Assumes nothing.
 use Prim.Native.Nat.{ℕ, _+_, _<_}
-use mathlib.Core.Path.{_≡_, ap}
+use mathlib.Core.Path.{_≡_, ap, subst}
 use mathlib.Core.Bool.{true}
 use mathlib.Core.List.{List, [], _∷_, _++_}
 use native.Mathlib.Omega.{arith}
@@ -9,40 +9,43 @@ use Rattle.text.specs.Characters.{all}
 use Rattle.record.specs.Records.{records}
 use Rattle.record.proofs.Cutting.{records-le}
 use Rattle.checksum.specs.Checksum.{checksum}
-use Rattle.layout.specs.Layout.{Layout}
-use Rattle.flow.specs.Publication.{layoutFor}
-use Rattle.flow.specs.Flows.{held, flowNumber, flowNamed}
-use Rattle.judge.specs.File.{verdict, judgedBy}
-use Rattle.judge.specs.declared.Verdict.the-variants as verdicts
-use Rattle.judge.proofs.Passes.{Passes, passes, must-accepted}
+use Rattle.flow.specs.Publication.{Flow, layoutFor}
+use Rattle.flow.specs.Editions.{Asked, aFlow}
+use Rattle.flow.specs.Proper.{Proper}
+use Rattle.flow.proofs.Proper.{ProperAsked}
+use Rattle.judge.specs.File.{judged, accepted}
+use Rattle.judge.proofs.Passes.{Passes, passes}
+use Rattle.judge.proofs.Demand2.{accepted-flow}
 use Rattle.sheet.specs.Sheets.{footer, butLast}
 use Rattle.sheet.proofs.Characters.{textRecord}
-use Rattle.sheet.proofs.Footers.{properFooter}
 use Rattle.sheet.proofs.AcceptedFiles.{records-split, lines-text}
 
-module _ (name f : List ℕ) (n : ℕ) (accepts : verdict name f ≡ verdicts.Accepted n) where
-  abbrev l : Layout
-  l = layoutFor (flowNamed name)
+-- it passes by the layout of a proper flow
+pub record PassesFor (a : Asked) (f : List ℕ) (n : ℕ) : Type 0 where
+  pub flow : Flow
+  pub isFlow : a ≡ aFlow flow
+  pub proper : Proper flow
+  pub passed : Passes (layoutFor flow) f n
+
+module _ (a : Asked) (proper : ProperAsked a) (f : List ℕ) (n : ℕ) (accepts : judged a f ≡ accepted n) where
+  pub accepted-passes : PassesFor a f n
+  accepted-passes =
+      let x = accepted-flow f n a accepts in
+      record { flow = x .0; isFlow = x .1; proper = subst ProperAsked (x .1) proper; passed = passes (layoutFor (x .0)) f n (x .2) }
 
   abbrev lines : List (List ℕ)
   lines = butLast (records f)
 
-  tests : (held name ≡ true) × (judgedBy l f ≡ verdicts.Accepted n)
-  unfolding verdict
-  tests = must-accepted (held name) 1 0 0 n (judgedBy l f) accepts
-
-  pub accepted-held : held name ≡ true
-  accepted-held = tests .0
-
-  pub accepted-passes : Passes l f n
-  accepted-passes = passes l f n (tests .1)
-
   -- its records are lines of text characters and the footer that is made for them
   pub accepted-split : records f ≡ lines ++ footer (length lines + 1) (checksum lines) ∷ []
-  accepted-split = records-split l (properFooter (flowNumber name)) f n accepted-passes
+  accepted-split =
+      let p = accepted-passes in
+      records-split (layoutFor (p .flow)) (p .proper .footer) f n (p .passed)
 
   pub accepted-text : all textRecord lines ≡ true
-  accepted-text = lines-text l (properFooter (flowNumber name)) f n accepted-passes
+  accepted-text =
+      let p = accepted-passes in
+      lines-text (layoutFor (p .flow)) (p .proper .footer) f n (p .passed)
 
   -- so it is not empty
   pub accepted-some : 0 < length f

@@ -20,13 +20,13 @@ use Rattle.number.proofs.Digits.{and-left, and-right}
 use Rattle.number.proofs.Spelling.{spelled-is}
 use Rattle.layout.specs.Layout.{Rule, Layout, row, isFooter}
 use Rattle.flow.specs.Letters.{ZPT}
+use Rattle.flow.specs.Proper.{lastRow, ProperFooter}
 use Rattle.fault.specs.Record.{kindOf}
 use Rattle.judge.specs.Record.{lastKind}
 use Rattle.judge.specs.File.{checkedFrom, endsInFeed}
 use Rattle.judge.proofs.RightFields.{FineRecord}
 use Rattle.judge.proofs.Passes.{Passes, all-fine, last-closes, last-spells}
 use Rattle.sheet.specs.Sheets.{tab, footer, butLast, parted, withFeed}
-use Rattle.sheet.proofs.Footers.{ProperFooter, lastRow}
 use Rattle.sheet.proofs.MadeFiles.{ends-so}
 use Rattle.sheet.proofs.Characters.{textRecord, kind-name, each-text, text-free}
 

@@ -23,13 +23,14 @@ use Rattle.field.specs.declared.FieldAnswer.the-variants.{Refused, Empty}
 use Rattle.number.proofs.Digits.{and-left, and-right, all-append, plain-digits}
 use Rattle.layout.specs.Layout.{Rule, Layout, row}
 use Rattle.layout.proofs.Names.{found-row}
+use Rattle.flow.specs.Proper.{ProperFooter}
 use Rattle.fault.specs.Fields.{fieldFault, fieldsFault}
 use Rattle.fault.specs.Record.{kindOf}
 use Rattle.fault.specs.declared.Check.the-variants.{Fine}
 use Rattle.judge.proofs.RightEach.{Each, each-first, each-rest}
 use Rattle.judge.proofs.RightFields.{FineRecord, must-fine}
 use Rattle.sheet.proofs.Holding.{none-passing, fields-hold}
-use Rattle.sheet.proofs.Footers.{ProperFooter, name-text}
+use Rattle.sheet.proofs.Footers.{name-text}
 
 -- each field of a record is of text characters
 abbrev pub textRecord : List ℕ → Bool

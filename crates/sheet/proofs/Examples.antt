@@ -20,15 +20,17 @@ use Rattle.number.proofs.Spelling.{spelled-is}
 use Rattle.layout.specs.Layout.{among, find}
 use Rattle.flow.specs.Letters.{ZPT, P0138001}
 use Rattle.flow.specs.Publication.{layoutFor}
-use Rattle.flow.specs.Flows.{flowNumber, flowNamed}
+use Rattle.flow.specs.Flows.{flowNumber, p0138}
+use Rattle.flow.specs.Editions.{usual, asked}
+use Rattle.flow.proofs.Proper.{held-proper}
 use Rattle.fault.specs.Fields.{fieldFault, fieldsFault}
 use Rattle.fault.specs.Record.{placeFault, shapeFault, keyFault, footerFault, kindFault}
 use Rattle.judge.specs.Record.{lastKind, keyWith, keyBefore, fault}
 use Rattle.place.specs.Places.{fieldStart, placeAt, refusal}
-use Rattle.judge.specs.File.{checkedFrom, ended, judgedBy, verdict}
+use Rattle.judge.specs.File.{checkedFrom, ended, judgedBy, judgedFor, judged, accepted}
 use Rattle.judge.specs.declared.Verdict.the-variants as verdicts
 use Rattle.sheet.specs.Sheets.{tab, footer, made, barLine, butLast, sheetOf}
-use Rattle.sheet.specs.Write.{written}
+use Rattle.sheet.specs.Write.{writtenBy, written}
 use Rattle.sheet.specs.Code.{linesJudged}
 use Rattle.sheet.specs.declared.Transfer.the-variants.{Done, Refused}
 use Rattle.sheet.proofs.Verdicts.{refused-is}
@@ -79,42 +81,42 @@ pub example-made : made exampleSheet ≡ example
 unfolding made turned joined records onto checksumOf checksum addRecord words
 example-made = ap (λ (foot : List ℕ). turned tab bar exampleSheet ++ foot ++ 0x0A ∷ []) footer-bytes
 
-example-accepted : verdict P0138001 example ≡ verdicts.Accepted 4
-unfolding joined onto records fields field turned words addRecord checksum minus unsigned plain intForm intValue decForm decValue spelled leap daysIn isDay isDate isTime textForm form range valueOf filled fieldAnswer among find flowNumber isDigit isText fieldFault fieldsFault lastKind keyWith keyBefore placeFault shapeFault keyFault footerFault kindFault fault checkedFrom ended judgedBy verdict
+example-accepted : judged (asked P0138001) example ≡ accepted 4
+unfolding joined onto records fields field turned words addRecord checksum minus unsigned plain intForm intValue decForm decValue spelled leap daysIn isDay isDate isTime textForm form range valueOf filled fieldAnswer among find flowNumber isDigit isText fieldFault fieldsFault lastKind keyWith keyBefore placeFault shapeFault keyFault footerFault kindFault fault checkedFrom ended judgedBy asked usual judgedFor judged
 example-accepted = refl
 
 -- with room for its 88 bytes it is written
-pub example-written : written P0138001 exampleSheet 88 ≡ Done 4 88
+pub example-written : written (asked P0138001) exampleSheet 88 ≡ Done 4 88
 unfolding turned joined holds
 example-written =
     let size : length (made exampleSheet) ≡ 88 = ap length example-made in
-    writer-takes P0138001 exampleSheet 88 4 88 .1
+    writer-takes exampleSheet 88 4 88 (asked P0138001) .1
     record {
       within = lit≤ tt;
       noBar = refl;
       ends = refl;
-      accepts = ap (verdict P0138001) example-made ∙ example-accepted;
+      accepts = ap (judged (asked P0138001)) example-made ∙ example-accepted;
       fits = omega arith;
       bytes = sym size;
     }
 
 -- an empty sheet is 5 at record 1, the made footer, whose place is the sheet's length
-pub empty-sheet : (room : ℕ) → written P0138001 [] room ≡ Refused (refusal 5 1 1 0)
-unfolding joined onto records fields field turned holds words addRecord checksum checksumOf minus unsigned plain intForm intValue decForm decValue spelled decimalIn decimal leap daysIn isDay isDate isTime textForm form range valueOf filled fieldAnswer among find flowNumber isDigit isText fieldFault fieldsFault lastKind keyWith keyBefore placeFault shapeFault keyFault footerFault kindFault fault checkedFrom ended judgedBy verdict placeAt footer made written
+pub empty-sheet : (room : ℕ) → written (asked P0138001) [] room ≡ Refused (refusal 5 1 1 0)
+unfolding joined onto records fields field turned holds words addRecord checksum checksumOf minus unsigned plain intForm intValue decForm decValue spelled decimalIn decimal leap daysIn isDay isDate isTime textForm form range valueOf filled fieldAnswer among find flowNumber isDigit isText fieldFault fieldsFault lastKind keyWith keyBefore placeFault shapeFault keyFault footerFault kindFault fault checkedFrom ended judgedBy placeAt footer made asked usual writtenBy written
 empty-sheet room = refl
 
 -- a sheet without its last line feed is 15 at its last line
-pub open-sheet : (room : ℕ) → written P0138001 (sheet (zhd ∷ sub ∷ []) ++ turned bar tab (bytes ta2)) room ≡ Refused (refusal 15 3 0 61)
-unfolding written flowNumber holds records onto joined turned fields extent fieldStart placeAt
+pub open-sheet : (room : ℕ) → written (asked P0138001) (sheet (zhd ∷ sub ∷ []) ++ turned bar tab (bytes ta2)) room ≡ Refused (refusal 15 3 0 61)
+unfolding written writtenBy asked usual flowNumber holds records onto joined turned fields extent fieldStart placeAt
 open-sheet room = refl
 
 -- a bar is 16 at its line, also in a last line that has no line feed
-pub bar-sheet : (room : ℕ) → written P0138001 (sheet (zhd ∷ []) ++ lines (sub ∷ ta2 ∷ [])) room ≡ Refused (refusal 16 2 0 42)
-unfolding written flowNumber holds records onto joined turned barLine fields extent fieldStart placeAt
+pub bar-sheet : (room : ℕ) → written (asked P0138001) (sheet (zhd ∷ []) ++ lines (sub ∷ ta2 ∷ [])) room ≡ Refused (refusal 16 2 0 42)
+unfolding written writtenBy asked usual flowNumber holds records onto joined turned barLine fields extent fieldStart placeAt
 bar-sheet room = refl
 
-pub open-bar-sheet : (room : ℕ) → written P0138001 (sheet (zhd ∷ []) ++ bytes sub) room ≡ Refused (refusal 16 2 0 42)
-unfolding written flowNumber holds records onto joined turned barLine fields extent fieldStart placeAt
+pub open-bar-sheet : (room : ℕ) → written (asked P0138001) (sheet (zhd ∷ []) ++ bytes sub) room ≡ Refused (refusal 16 2 0 42)
+unfolding written writtenBy asked usual flowNumber holds records onto joined turned barLine fields extent fieldStart placeAt
 open-bar-sheet room = refl
 
 -- behind a right ZPT line the made footer is 5, at the sheet's length
@@ -126,11 +128,11 @@ bytes-by (b ∷ s) e (suc i) = bytes-by s (and-right (ltb b 256) (all (λ x. ltb
 abbrev footedSheet : List ℕ
 footedSheet = sheet (zhd ∷ sub ∷ ta2 ∷ "ZPT|4|812996689" ∷ [])
 
-footed-lines : linesJudged (layoutFor (flowNamed P0138001)) (records footedSheet) ≡ verdicts.Refused 5 5 1
+footed-lines : linesJudged (layoutFor p0138) (records footedSheet) ≡ verdicts.Refused 5 5 1
 unfolding joined onto records fields field turned words addRecord checksum minus unsigned plain intForm intValue decForm decValue spelled leap daysIn isDay isDate isTime textForm form range valueOf filled fieldAnswer among find flowNumber isDigit isText fieldFault fieldsFault lastKind keyWith keyBefore placeFault shapeFault keyFault footerFault kindFault fault checkedFrom linesJudged
 footed-lines = refl
 
-pub footed-sheet : (room : ℕ) → written P0138001 footedSheet room ≡ Refused (refusal 5 5 1 88)
-unfolding flowNumber turned joined holds records onto placeAt
+pub footed-sheet : (room : ℕ) → written (asked P0138001) footedSheet room ≡ Refused (refusal 5 5 1 88)
+unfolding written asked usual flowNumber turned joined holds records onto placeAt
 footed-sheet room =
-    refused-is P0138001 footedSheet (λ e. let z : _≡_ {A = ℕ} 5 0 = e in omega arith) (lit≤ tt) refl refl (bytes-by footedSheet refl) 5 5 1 room footed-lines
+    refused-is (layoutFor p0138) footedSheet (lit≤ tt) refl (held-proper 5 .footer) refl (bytes-by footedSheet refl) 5 5 1 room footed-lines

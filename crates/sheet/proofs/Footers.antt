@@ -21,8 +21,8 @@ use Rattle.number.proofs.ByValue.{bare-is, no-sign}
 use Rattle.number.proofs.Spelling.{decimal-plain, decimal-digits, decimal-short, decimal-int, decimal-spelled}
 use Rattle.layout.specs.Layout.{KindRow, Layout, row, blank, find, mayFollow, kindNamed, isFooter}
 use Rattle.flow.specs.Letters.{ZPT}
-use Rattle.flow.specs.Publication.{int, layoutFor}
-use Rattle.flow.specs.Flows.{flows, flowAt, p0012}
+use Rattle.flow.specs.Publication.{int}
+use Rattle.flow.specs.Proper.{lastRow, ProperFooter}
 use Rattle.fault.specs.Fields.{also, fieldFault, fieldsFault}
 use Rattle.fault.specs.Record.{kindOf, placeFault, shapeFault, keyFault, footerFault, kindFault}
 use Rattle.judge.specs.Record.{lastKind, sumOf, fault}
@@ -30,33 +30,6 @@ use Rattle.fault.specs.declared.Check.{Check}
 use Rattle.fault.specs.declared.Check.the-variants.{Fine, Fault}
 use Rattle.sheet.specs.Sheets.{footer}
 use Rattle.sheet.proofs.Holding.{none-append, none-passing}
-
--- the last kind of a layout
-abbrev pub lastRow : Layout → ℕ
-lastRow l = length (l .rows) - 1
-
--- the last kind of a layout is ZPT with two ints of at most 10 digits and no key, and every kind's name is of text characters
-pub record ProperFooter (l : Layout) : Type 0 where
-  pub found : kindNamed l ZPT ≡ lastRow l
-  pub some : 1 ≤ lastRow l
-  pub name : row l (lastRow l) .name ≡ ZPT
-  pub rules : row l (lastRow l) .rules ≡ int 10 ∷ int 10 ∷ []
-  pub key : row l (lastRow l) .key ≡ 0
-  pub names : all (all isText) (map (λ (r : KindRow). r .name) (drop 1 (l .rows))) ≡ true
-
--- so it is in each flow that we hold, by computing
-proper-from : (i : ℕ) → ProperFooter (layoutFor (getD flows i p0012))
-unfolding find isText isDigit
-proper-from zero = record { found = refl; some = lit≤ tt; name = refl; rules = refl; key = refl; names = refl }
-proper-from (suc zero) = record { found = refl; some = lit≤ tt; name = refl; rules = refl; key = refl; names = refl }
-proper-from (suc (suc zero)) = record { found = refl; some = lit≤ tt; name = refl; rules = refl; key = refl; names = refl }
-proper-from (suc (suc (suc zero))) = record { found = refl; some = lit≤ tt; name = refl; rules = refl; key = refl; names = refl }
-proper-from (suc (suc (suc (suc zero)))) = record { found = refl; some = lit≤ tt; name = refl; rules = refl; key = refl; names = refl }
-proper-from (suc (suc (suc (suc (suc zero))))) = record { found = refl; some = lit≤ tt; name = refl; rules = refl; key = refl; names = refl }
-proper-from (suc (suc (suc (suc (suc (suc i)))))) = record { found = refl; some = lit≤ tt; name = refl; rules = refl; key = refl; names = refl }
-
-pub properFooter : (n : ℕ) → ProperFooter (layoutFor (flowAt n))
-properFooter n = proper-from (n - 1)
 
 -- every kind's name is of text characters; row 0 is no kind's
 name-at : (ps : List (List ℕ)) → all (all isText) ps ≡ true → (k : ℕ) → all isText (getD ps k []) ≡ true

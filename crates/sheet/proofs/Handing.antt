@@ -12,15 +12,19 @@ use Rattle.record.proofs.Turned.{turned-length}
 use Rattle.checksum.specs.Checksum.{checksumOf}
 use Rattle.place.specs.Places.{whole}
 use Rattle.place.specs.declared.Refusal.{Refusal}
-use Rattle.judge.specs.File.{verdict, withPlace, judged}
+use Rattle.layout.specs.Layout.{Layout}
+use Rattle.flow.specs.Publication.{Flow, layoutFor}
+use Rattle.flow.specs.Editions.{Asked, aFlow, noFlow}
+use Rattle.judge.specs.File.{judgedFor, judged}
 use Rattle.judge.specs.File as judging
 use Rattle.judge.specs.declared.Judged.{Judged}
 use Rattle.judge.specs.declared.Judged.the-variants as files
 use Rattle.judge.proofs.Demand2.{one-reply}
 use Rattle.sheet.specs.Sheets.{tab, footer, made, butLast, sheetOf}
-use Rattle.sheet.specs.Write.{asJudged, fitted, written, paper, Wrote}
+use Rattle.sheet.specs.Write.{asJudged, fitted, writtenBy, written, paper, Handed, Wrote}
 use Rattle.sheet.specs.Read.{readTo, Read}
 use Rattle.sheet.specs.Code.{Totals, Taken, put}
+use Rattle.sheet.specs.declared.Transfer.{Transfer}
 use Rattle.sheet.specs.declared.Transfer.the-variants.{Done, Refused}
 use Rattle.sheet.proofs.Putting.{grown}
 use Rattle.sheet.proofs.MadeFiles.{made-length}
@@ -33,18 +37,37 @@ module _ (room : ℕ) (result : List ℕ) (n : ℕ) where
   pub fits : length result ≤ room → fitted room result n ≡ Done n (length result)
   fits h = rw (le-leb (length result) room h)
 
--- the writer
-module _ (name sheet old : List ℕ) where
-  pub wrote-refused : {r q : Refusal} → r ≡ q → written name sheet (length old) ≡ Refused q → Wrote name sheet (Refused r) old old
+-- the writer, by a layout
+module _ (l : Layout) (sheet old : List ℕ) where
+  abbrev WroteBy : Transfer → List ℕ → Type 0
+  WroteBy answer new = Handed (writtenBy l sheet (length old)) (made sheet) answer old new
+
+  pub wrote-refused : {r q : Refusal} → r ≡ q → writtenBy l sheet (length old) ≡ Refused q → WroteBy (Refused r) old
   wrote-refused z e = record { says = ap (λ (x : Refusal). paper (Refused x)) z ∙ ap paper (sym e); leaves = refl }
 
-  module _ (n sum b : ℕ) (t : Taken name sheet n sum) (size : b ≡ length (made sheet)) where
-    pub wrote-no-room : {r : Refusal} → r ≡ whole 17 → length old < b → Wrote name sheet (Refused r) old old
+  module _ (n sum b : ℕ) (t : Taken l sheet n sum) (size : b ≡ length (made sheet)) where
+    pub wrote-no-room : {r : Refusal} → r ≡ whole 17 → length old < b → WroteBy (Refused r) old
     wrote-no-room z h = wrote-refused z (t .says (length old) ∙ fits-not (length old) (made sheet) n (rw size at h))
 
-    pub wrote-done : (new : List ℕ) → b ≤ length old → new ≡ made sheet ++ drop b old → Wrote name sheet (Done n b) old new
+    pub wrote-done : (new : List ℕ) → b ≤ length old → new ≡ made sheet ++ drop b old → WroteBy (Done n b) new
     wrote-done new h e =
         record { says = ap (λ (k : ℕ). paper (Done n k)) size ∙ ap paper (sym (t .says (length old) ∙ fits (length old) (made sheet) n (rw size at h))); leaves = e }
+
+-- and for what is asked
+module _ (a : Asked) (sheet old : List ℕ) where
+  pub wrote-no-flow : (r : Refusal) → noFlow r ≡ a → Wrote a sheet (Refused r) old old
+  unfolding written
+  wrote-no-flow r e = record { says = ap (λ (x : Asked). paper (written x sheet (length old))) e; leaves = refl }
+
+  pub wrote-for : (fl : Flow) → aFlow fl ≡ a → (l : Layout) → l ≡ layoutFor fl → (answer : Transfer) (new : List ℕ)
+      → Handed (writtenBy l sheet (length old)) (made sheet) answer old new → Wrote a sheet answer old new
+  unfolding written
+  wrote-for fl e l is answer new h =
+      record {
+        says =
+            h .says ∙ ap (λ (x : Layout). paper (writtenBy x sheet (length old))) is ∙ ap (λ (x : Asked). paper (written x sheet (length old))) e;
+        leaves = h .leaves;
+      }
 
 -- the turned sheet at the front, and the footer behind it
 module _ (sheet old : List ℕ) (n sum : ℕ) (t : Totals sheet n sum) where
@@ -70,16 +93,16 @@ module _ (sheet old : List ℕ) (n sum : ℕ) (t : Totals sheet n sum) where
       ∙ ap (λ (x : List ℕ). x ++ drop (0 + length x) old) whole ∙ rw zero-add
 
 -- the reader
-module _ (name f old : List ℕ) where
-  read-is : (v : Judged) → judging.paper v ≡ judged name f → paper (asJudged v (fitted (length old) (sheetOf f))) ≡ paper (readTo name f (length old))
+module _ (a : Asked) (f old : List ℕ) where
+  read-is : (v : Judged) → judging.paper v ≡ judged a f → paper (asJudged v (fitted (length old) (sheetOf f))) ≡ paper (readTo a f (length old))
   unfolding readTo judged
-  read-is v e = ap (λ (w : Judged). paper (asJudged w (fitted (length old) (sheetOf f)))) (one-reply v (withPlace bar f (verdict name f)) e)
+  read-is v e = ap (λ (w : Judged). paper (asJudged w (fitted (length old) (sheetOf f)))) (one-reply v (judgedFor a f) e)
 
-  pub read-refused : (r : Refusal) → judging.paper (files.Refused r) ≡ judged name f → Read name f (Refused r) old old
+  pub read-refused : (r : Refusal) → judging.paper (files.Refused r) ≡ judged a f → Read a f (Refused r) old old
   read-refused r e = record { says = read-is (files.Refused r) e; leaves = refl }
 
   -- the last record starts at b
-  module _ (n b : ℕ) (accepts : judging.accepted n ≡ judged name f) (within : b ≤ length f) (front : joined (butLast (records f)) ≡ take b f) where
+  module _ (n b : ℕ) (accepts : judging.accepted n ≡ judged a f) (within : b ≤ length f) (front : joined (butLast (records f)) ≡ take b f) where
     sheet-is : sheetOf f ≡ turned bar tab (take b f)
     unfolding sheetOf
     sheet-is = ap (turned bar tab) front
@@ -87,7 +110,7 @@ module _ (name f old : List ℕ) where
     size : length (sheetOf f) ≡ b
     size = ap length sheet-is ∙ turned-length bar tab (take b f) ∙ length-take-le b f within
 
-    pub read-no-room : {r : Refusal} → r ≡ whole 17 → length old < b → Read name f (Refused r) old old
+    pub read-no-room : {r : Refusal} → r ≡ whole 17 → length old < b → Read a f (Refused r) old old
     read-no-room z h =
         let over : length old < length (sheetOf f) = omega (arith, size) in
         record {
@@ -96,7 +119,7 @@ module _ (name f old : List ℕ) where
           leaves = refl;
         }
 
-    pub read-done : (new : List ℕ) → b ≤ length old → new ≡ put old 0 (turned bar tab (take b f)) → Read name f (Done n b) old new
+    pub read-done : (new : List ℕ) → b ≤ length old → new ≡ put old 0 (turned bar tab (take b f)) → Read a f (Done n b) old new
     read-done new h e =
         let room : length (sheetOf f) ≤ length old = omega (arith, size) in
         let put-so : new ≡ sheetOf f ++ drop b old =

@@ -13,6 +13,7 @@ use Rattle.checksum.specs.Checksum.{checksumOf}
 use Rattle.record.proofs.Turned.{turned-length, turned-joined, records-turned}
 use Rattle.record.proofs.Cutting.{records-joined, records-free, records-le, joined-append, joined-ended}
 use Rattle.layout.specs.Layout.{Layout, mayFollow}
+use Rattle.flow.specs.Proper.{lastRow, ProperFooter}
 use Rattle.judge.specs.Record.{lastKind, sumOf, fault}
 use Rattle.judge.specs.File.{atRecord, checkedFrom, endsInFeed, ended, finish, judgedBy}
 use Rattle.fault.specs.declared.Check.the-variants.{Fine, Fault}
@@ -24,7 +25,7 @@ use Rattle.sheet.specs.Write.{linesEnded}
 use Rattle.sheet.specs.Code.{linesJudged}
 use Rattle.sheet.proofs.Holding.{none-snoc, records-hold}
 use Rattle.sheet.proofs.Lines.{same-checked, same-last, same-sum, checked-snoc}
-use Rattle.sheet.proofs.Footers.{ProperFooter, lastRow, foot-free, foot-fault, foot-kind, foot-last, foot-short}
+use Rattle.sheet.proofs.Footers.{foot-free, foot-fault, foot-kind, foot-last, foot-short}
 
 not-feed : tab ≡ 0x0A → ⊥
 not-feed e = omega arith

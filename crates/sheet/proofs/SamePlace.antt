@@ -16,12 +16,13 @@ use Rattle.checksum.proofs.Sums.{checksumOf-lt}
 use Rattle.place.specs.Places.{recordAt, recordStart, fieldStart, placeAt, refusal}
 use Rattle.place.proofs.Points.{at-zero, past-end, in-record}
 use Rattle.layout.specs.Layout.{Layout, mayFollow}
-use Rattle.flow.specs.Publication.{layoutFor}
-use Rattle.flow.specs.Flows.{flowNumber, flowNamed}
+use Rattle.flow.specs.Publication.{Flow, layoutFor}
+use Rattle.flow.specs.Editions.{aFlow}
+use Rattle.flow.specs.Proper.{lastRow, ProperFooter, Proper}
 use Rattle.fault.specs.declared.Check.{Check}
 use Rattle.fault.specs.declared.Check.the-variants.{Fine, Fault}
 use Rattle.judge.specs.Record.{lastKind, fault}
-use Rattle.judge.specs.File.{atRecord, checkedFrom, finish, judgedBy, verdict, withPlace, paper, judged}
+use Rattle.judge.specs.File.{atRecord, checkedFrom, finish, judgedBy, withPlace, judgedFor, paper, judged}
 use Rattle.judge.specs.declared.Verdict.{Verdict}
 use Rattle.judge.specs.declared.Verdict.the-variants.{Accepted, Refused}
 use Rattle.judge.specs.declared.Judged.the-variants as answers
@@ -29,7 +30,6 @@ use Rattle.sheet.specs.Sheets.{tab, made}
 use Rattle.sheet.specs.Write.{linesEnded}
 use Rattle.sheet.specs.Code.{linesJudged}
 use Rattle.sheet.proofs.Holding.{records-hold}
-use Rattle.sheet.proofs.Footers.{ProperFooter, properFooter, lastRow}
 use Rattle.sheet.proofs.MadeFiles.{sheet-joined, records-made, made-judged}
 
 -- lines, their tabs turned to bars and more records behind them: where each starts, and what it is
@@ -160,11 +160,10 @@ module _ (l : Layout) (proper : ProperFooter l) (sheet : List ℕ) (short : leng
       (at-footer (mayFollow l (lastKind tab l (records sheet)) (lastRow l))))
 
 -- what the writer takes over from the reader is the reader's answer on the made file, its place included
-module _ (name sheet : List ℕ) (known : flowNumber name ≡ 0 → ⊥) (short : length sheet ≤ 1048000) (free : holds bar sheet ≡ false)
+module _ (fl : Flow) (proper : Proper fl) (sheet : List ℕ) (short : length sheet ≤ 1048000) (free : holds bar sheet ≡ false)
     (ends : linesEnded sheet ≡ true) (bytes : Bytes sheet) where
-  pub judged-place : paper (withPlace tab sheet (verdict name (made sheet))) ≡ judged name (made sheet)
-  unfolding judged verdict
+  pub judged-place : paper (withPlace tab sheet (judgedBy (layoutFor fl) (made sheet))) ≡ judged (aFlow fl) (made sheet)
+  unfolding judged judgedFor
   judged-place =
       let small = checksumOf-lt (turned tab bar sheet) (turned-bytes tab bar sheet (omega arith) bytes) in
-      rw (ne-eqb (flowNumber name) 0 known)
-      (ap paper (same-place (layoutFor (flowNamed name)) (properFooter (flowNumber name)) sheet short free ends small))
+      ap paper (same-place (layoutFor fl) (proper .footer) sheet short free ends small)

@@ -5,7 +5,7 @@ use mathlib.Core.Bool.{true, false}
 use mathlib.Core.List.{List, []}
 use native.Mathlib.Omega.{arith}
 use lib.ListN.{length}
-use borrow.Author.Tests.{ne-eqb, le-leb, lt-leb}
+use borrow.Author.Tests.{le-leb, lt-leb}
 use Rattle.record.specs.Records.{records, turned, holds, Bytes, bar}
 use Rattle.checksum.specs.Checksum.{checksumOf}
 use Rattle.checksum.proofs.Sums.{checksumOf-lt}
@@ -13,20 +13,18 @@ use Rattle.record.proofs.Cutting.{records-le}
 use Rattle.record.proofs.Turned.{turned-bytes}
 use Rattle.place.specs.Places.{placeAt, refusalAt}
 use Rattle.layout.specs.Layout.{Layout, mayFollow}
-use Rattle.flow.specs.Publication.{layoutFor}
-use Rattle.flow.specs.Flows.{held, flowNumber, flowNamed}
+use Rattle.flow.specs.Proper.{lastRow, ProperFooter}
 use Rattle.judge.specs.Record.{lastKind, sumOf}
 use Rattle.judge.specs.Code.{summary}
-use Rattle.judge.specs.File.{checkedFrom, verdict}
+use Rattle.judge.specs.File.{checkedFrom, judgedBy}
 use Rattle.fault.specs.declared.State.{State}
 use Rattle.judge.specs.declared.Verdict.the-variants.{Accepted, Refused}
 use Rattle.sheet.specs.Sheets.{tab, made, barLine}
-use Rattle.sheet.specs.Write.{linesEnded, fitted, written}
+use Rattle.sheet.specs.Write.{linesEnded, fitted, writtenBy}
 use Rattle.sheet.specs.Code.{linesJudged, Totals, LinesRight, MadeRight}
 use Rattle.sheet.specs.declared.Transfer.the-variants as transfers
 use Rattle.sheet.specs.declared.Made.{Made}
 use Rattle.sheet.specs.declared.Made.the-variants as mades
-use Rattle.sheet.proofs.Footers.{lastRow, properFooter}
 use Rattle.sheet.proofs.MadeFiles.{sheet-sum, made-judged}
 
 -- the lines of a sheet
@@ -67,49 +65,37 @@ module _ (l : Layout) (sheet : List ℕ) where
       )
 
 -- the writer's tests, one after the other
-module _ (name sheet : List ℕ) where
-  pub sheet-no-flow : flowNumber name ≡ 0 → (room : ℕ) → written name sheet room ≡ transfers.Refused (refusalAt tab sheet 1 0 0)
-  unfolding written placeAt
-  sheet-no-flow e room = rw e
+module _ (l : Layout) (sheet : List ℕ) where
+  pub sheet-long : 1048000 < length sheet → (room : ℕ) → writtenBy l sheet room ≡ transfers.Refused (refusalAt tab sheet 2 0 0)
+  unfolding writtenBy placeAt
+  sheet-long h room = rw (lt-leb (length sheet) 1048000 h)
 
-  module _ (known : flowNumber name ≡ 0 → ⊥) where
-    is-held : held name ≡ true
-    is-held = rw (ne-eqb (flowNumber name) 0 known)
+  module _ (short : length sheet ≤ 1048000) where
+    pub sheet-bar : holds bar sheet ≡ true → (room : ℕ) → writtenBy l sheet room ≡ transfers.Refused (refusalAt tab sheet 16 (barLine 1 (records sheet)) 0)
+    unfolding writtenBy
+    sheet-bar e room = rw (le-leb (length sheet) 1048000 short, e)
 
-    pub sheet-long : 1048000 < length sheet → (room : ℕ) → written name sheet room ≡ transfers.Refused (refusalAt tab sheet 2 0 0)
-    unfolding written placeAt
-    sheet-long h room = rw (is-held, lt-leb (length sheet) 1048000 h)
+    module _ (free : holds bar sheet ≡ false) where
+      pub sheet-open : linesEnded sheet ≡ false → (room : ℕ) → writtenBy l sheet room ≡ transfers.Refused (refusalAt tab sheet 15 (length (records sheet)) 0)
+      unfolding writtenBy
+      sheet-open e room = rw (le-leb (length sheet) 1048000 short, free, e)
 
-    module _ (short : length sheet ≤ 1048000) where
-      pub sheet-bar : holds bar sheet ≡ true → (room : ℕ) → written name sheet room ≡ transfers.Refused (refusalAt tab sheet 16 (barLine 1 (records sheet)) 0)
-      unfolding written
-      sheet-bar e room = rw (is-held, le-leb (length sheet) 1048000 short, e)
+      module _ (proper : ProperFooter l) (ends : linesEnded sheet ≡ true) (bytes : Bytes sheet) where
+        small : checksumOf (turned tab bar sheet) < 2 ^ 32
+        small = checksumOf-lt (turned tab bar sheet) (turned-bytes tab bar sheet (omega arith) bytes)
 
-      module _ (free : holds bar sheet ≡ false) where
-        pub sheet-open : linesEnded sheet ≡ false → (room : ℕ) → written name sheet room ≡ transfers.Refused (refusalAt tab sheet 15 (length (records sheet)) 0)
-        unfolding written
-        sheet-open e room = rw (is-held, le-leb (length sheet) 1048000 short, free, e)
+        verdict-is : judgedBy l (made sheet) ≡ linesJudged l (records sheet)
+        verdict-is = made-judged l proper sheet short free ends small
 
-        module _ (ends : linesEnded sheet ≡ true) (bytes : Bytes sheet) where
-          abbrev l : Layout
-          l = layoutFor (flowNamed name)
+        pub refused-is : (number r f room : ℕ) → linesJudged l (records sheet) ≡ Refused number r f → writtenBy l sheet room ≡ transfers.Refused (refusalAt tab sheet number r f)
+        unfolding writtenBy
+        refused-is number r f room e = rw (le-leb (length sheet) 1048000 short, free, ends, verdict-is, e)
 
-          small : checksumOf (turned tab bar sheet) < 2 ^ 32
-          small = checksumOf-lt (turned tab bar sheet) (turned-bytes tab bar sheet (omega arith) bytes)
+        taken-is : (n room : ℕ) → linesJudged l (records sheet) ≡ Accepted n → writtenBy l sheet room ≡ fitted room (made sheet) n
+        unfolding writtenBy
+        taken-is n room e = rw (le-leb (length sheet) 1048000 short, free, ends, verdict-is, e)
 
-          verdict-is : verdict name (made sheet) ≡ linesJudged l (records sheet)
-          unfolding verdict
-          verdict-is = rw is-held (made-judged l (properFooter (flowNumber name)) sheet short free ends small)
-
-          pub refused-is : (number r f room : ℕ) → linesJudged l (records sheet) ≡ Refused number r f → written name sheet room ≡ transfers.Refused (refusalAt tab sheet number r f)
-          unfolding written
-          refused-is number r f room e = rw (is-held, le-leb (length sheet) 1048000 short, free, ends, verdict-is, e)
-
-          taken-is : (n room : ℕ) → linesJudged l (records sheet) ≡ Accepted n → written name sheet room ≡ fitted room (made sheet) n
-          unfolding written
-          taken-is n room e = rw (is-held, le-leb (length sheet) 1048000 short, free, ends, verdict-is, e)
-
-          -- only the lines and the room are left to ask
-          pub sheet-judged : (m : Made) → LinesRight l sheet m → MadeRight name sheet m
-          sheet-judged (mades.Refused number r f) h = λ room. refused-is number r f room h
-          sheet-judged (mades.Right n sum) h = record { says = λ room. taken-is n room (h .0); short = short; totals = h .1 }
+        -- only the lines and the room are left to ask
+        pub sheet-judged : (m : Made) → LinesRight l sheet m → MadeRight l sheet m
+        sheet-judged (mades.Refused number r f) h = λ room. refused-is number r f room h
+        sheet-judged (mades.Right n sum) h = record { says = λ room. taken-is n room (h .0); short = short; totals = h .1 }

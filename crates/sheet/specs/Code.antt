@@ -13,7 +13,7 @@ use Rattle.judge.specs.File.{checkedFrom, finish}
 use Rattle.judge.specs.declared.Verdict.{Verdict}
 use Rattle.judge.specs.declared.Verdict.the-variants as verdicts
 use Rattle.sheet.specs.Sheets.{tab, made}
-use Rattle.sheet.specs.Write.{fitted, written}
+use Rattle.sheet.specs.Write.{fitted, writtenBy}
 use Rattle.sheet.specs.declared.Transfer.the-variants as transfers
 use Rattle.sheet.specs.declared.Made.{Made}
 use Rattle.sheet.specs.declared.Made.the-variants.{Right, Refused}
@@ -37,15 +37,15 @@ LinesRight l sheet (Refused number r f) = linesJudged l (records sheet) ≡ verd
 LinesRight l sheet (Right n sum) = (linesJudged l (records sheet) ≡ verdicts.Accepted n) × Totals sheet n sum
 
 -- a sheet that only the room can refuse
-pub record Taken (name sheet : List ℕ) (n sum : ℕ) : Type 0 where
-  pub says : (room : ℕ) → written name sheet room ≡ fitted room (made sheet) n
+pub record Taken (l : Layout) (sheet : List ℕ) (n sum : ℕ) : Type 0 where
+  pub says : (room : ℕ) → writtenBy l sheet room ≡ fitted room (made sheet) n
   pub short : length sheet ≤ 1048000
   pub totals : Totals sheet n sum
 
 -- a sheet up to the question of room
-abbrev pub MadeRight : List ℕ → List ℕ → Made → Type 0
-MadeRight name sheet (Refused number r f) = (room : ℕ) → written name sheet room ≡ transfers.Refused (refusalAt tab sheet number r f)
-MadeRight name sheet (Right n sum) = Taken name sheet n sum
+abbrev pub MadeRight : Layout → List ℕ → Made → Type 0
+MadeRight l sheet (Refused number r f) = (room : ℕ) → writtenBy l sheet room ≡ transfers.Refused (refusalAt tab sheet number r f)
+MadeRight l sheet (Right n sum) = Taken l sheet n sum
 
 -- bytes with others put at a place
 abbrev pub put : List ℕ → ℕ → List ℕ → List ℕ

@@ -1,4 +1,4 @@
--- Writing a file from a sheet (document 01, "Sheets" and the writer's order; document 02, C-12). Assumes nothing.
+-- Writing a file from a sheet (document 01, "Sheets" and the writer's order; document 02, C-12 and C-16). Assumes nothing.
 use Prim.Native.Nat.{ℕ}
 use mathlib.Core.Path.{_≡_}
 use mathlib.Core.Bool.{Bool, not, _||_}
@@ -8,8 +8,10 @@ use lib.ListN.{length, drop}
 use Rattle.text.specs.Rules.{must}
 use Rattle.record.specs.Records.{records, holds, bar}
 use Rattle.place.specs.Places.{refusalAt, whole}
-use Rattle.flow.specs.Flows.{held}
-use Rattle.judge.specs.File.{verdict, withPlace, endsInFeed}
+use Rattle.layout.specs.Layout.{Layout}
+use Rattle.flow.specs.Publication.{layoutFor}
+use Rattle.flow.specs.Editions.{Asked, aFlow, noFlow}
+use Rattle.judge.specs.File.{judgedBy, withPlace, endsInFeed}
 use Rattle.judge.specs.declared.Judged.{Judged}
 use Rattle.judge.specs.declared.Judged.the-variants as files
 use Rattle.sheet.specs.Sheets.{tab, made, barLine}
@@ -29,15 +31,19 @@ asJudged (files.Refused r) after = Refused r
 abbrev pub fitted : ℕ → List ℕ → ℕ → Transfer
 fitted room result n = must (leb (length result) room) (Refused (whole 17)) (Done n (length result))
 
--- in the writer's order: 1, 2, 16, 15, the reader's from record 1 on the made file, then 17; each with its place in the sheet
-unfoldable pub written : List ℕ → List ℕ → ℕ → Transfer
-written name sheet room =
-    must (held name) (Refused (whole 1))
-    (must (leb (length sheet) 1048000) (Refused (whole 2))
+-- a sheet by a layout, in the writer's order: 2, 16, 15, the reader's from record 1 on the made file, then 17; each with its place in the sheet
+unfoldable pub writtenBy : Layout → List ℕ → ℕ → Transfer
+writtenBy l sheet room =
+    must (leb (length sheet) 1048000) (Refused (whole 2))
     (must (not (holds bar sheet)) (Refused (refusalAt tab sheet 16 (barLine 1 (records sheet)) 0))
     (must (linesEnded sheet) (Refused (refusalAt tab sheet 15 (length (records sheet)) 0))
-    (asJudged (withPlace tab sheet (verdict name (made sheet)))
-    (fitted room (made sheet))))))
+    (asJudged (withPlace tab sheet (judgedBy l (made sheet)))
+    (fitted room (made sheet)))))
+
+-- a sheet for what is asked: 1 and 21 come first
+unfoldable pub written : Asked → List ℕ → ℕ → Transfer
+written (aFlow fl) sheet room = writtenBy (layoutFor fl) sheet room
+written (noFlow r) sheet room = Refused r
 
 -- the papers' answers: records and bytes written, or a refusal's number, record, field and place
 pub data Reply : Type 0 where
@@ -54,7 +60,11 @@ abbrev pub output : Transfer → List ℕ → List ℕ → List ℕ
 output (Done records bytes) result old = result ++ drop bytes old
 output (Refused r) result old = old
 
--- writing a file from a sheet: the answer, and every byte that was lent
-pub record Wrote (name sheet : List ℕ) (answer : Transfer) (old new : List ℕ) : Type 0 where
-  pub says : paper answer ≡ paper (written name sheet (length old))
-  pub leaves : new ≡ output answer (made sheet) old
+-- what is handed over: the answer that is to be said, and every byte that was lent
+pub record Handed (said : Transfer) (result : List ℕ) (answer : Transfer) (old new : List ℕ) : Type 0 where
+  pub says : paper answer ≡ paper said
+  pub leaves : new ≡ output answer result old
+
+-- writing a file from a sheet
+abbrev pub Wrote : Asked → List ℕ → Transfer → List ℕ → List ℕ → Type 0
+Wrote a sheet answer old new = Handed (written a sheet (length old)) (made sheet) answer old new

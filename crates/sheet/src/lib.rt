@@ -1,4 +1,5 @@
 // Sheets: a file written from one, and one read from a file.
+use flow::Named;
 use judge::Judged;
 use judge::Walk;
 use place::Refusal;
@@ -14,8 +15,10 @@ ghost use lib.ListN.{length, take, drop};
 ghost use Rattle.record.specs.Records.{records, turnedByte, turned, joined, holds};
 ghost use Rattle.number.specs.Numbers.{decimal};
 ghost use Rattle.layout.specs.Numbers.{layoutOf};
-ghost use Rattle.sheet.specs.Sheets.{footer as footerOf, barLine, butLast};
-ghost use Rattle.sheet.specs.Write.{linesEnded, Wrote};
+ghost use Rattle.flow.specs.Editions.{asked};
+ghost use Rattle.flow.specs.Proper.{ProperFooter};
+ghost use Rattle.sheet.specs.Sheets.{footer as footerOf, barLine, butLast, made};
+ghost use Rattle.sheet.specs.Write.{linesEnded, writtenBy, Handed, Wrote};
 ghost use Rattle.sheet.specs.Read.{Read};
 ghost use Rattle.sheet.specs.Code.{LinesRight, MadeRight, put};
 
@@ -156,18 +159,11 @@ fn judge_lines(t: &[u32], fixed: &[u8], sheet: &[u8]) -> Made
     }
 }
 
-// A sheet up to the question of room: 1, 2, 16, 15, then what the reader says of the made file.
-fn judge_sheet(flow: &[u8], sheet: &[u8]) -> Made
-    ensures { λ m. ⌜ MadeRight (now (flow .entry)) (now (sheet .entry)) m ⌝ }
+// A sheet by a table, up to the question of room: 2, 16, 15, then what the reader says of the made file.
+fn judge_sheet(t: &[u32], fixed: &[u8], sheet: &[u8]) -> Made
+    requires { ⌜ ProperFooter (layoutOf (now t) (now fixed)) ⌝ }
+    ensures { λ m. ⌜ MadeRight (layoutOf (now (t .entry)) (now (fixed .entry))) (now (sheet .entry)) m ⌝ }
 {
-    let n = flow::flow_number(flow);
-    if n == 0 {
-        return Made::Refused {
-            number: 1,
-            record: 0,
-            field: 0,
-        };
-    }
     if 1048000 < sheet.len() {
         return Made::Refused {
             number: 2,
@@ -189,10 +185,7 @@ fn judge_sheet(flow: &[u8], sheet: &[u8]) -> Made
             field: 0,
         };
     }
-    let table = flow::table_of(n);
-    let numbers = table.numbers;
-    let fixed = table.fixed;
-    judge_lines(&numbers, &fixed, sheet)
+    judge_lines(t, fixed, sheet)
 }
 
 // A byte, turned to another where it is this one.
@@ -293,11 +286,12 @@ pub fn last_start(f: &[u8]) -> usize
     0
 }
 
-// Writes the file of a sheet for a flow into the lent bytes: any name, any bytes, any room.
-pub fn write(flow: &[u8], sheet: &[u8], out: &mut [u8]) -> Transfer
-    ensures { λ a. ⌜ Wrote (now (flow .entry)) (now (sheet .entry)) a (now (out .entry)) (now (out .exit)) ⌝ }
+// Writes the file of a sheet by a table into the lent bytes.
+fn write_by(t: &[u32], fixed: &[u8], sheet: &[u8], out: &mut [u8]) -> Transfer
+    requires { ⌜ ProperFooter (layoutOf (now t) (now fixed)) ⌝ }
+    ensures { λ a. ⌜ Handed (writtenBy (layoutOf (now (t .entry)) (now (fixed .entry))) (now (sheet .entry)) (length (now (out .entry)))) (made (now (sheet .entry))) a (now (out .entry)) (now (out .exit)) ⌝ }
 {
-    match judge_sheet(flow, sheet) {
+    match judge_sheet(t, fixed, sheet) {
         Made::Refused {
             number,
             record,
@@ -316,9 +310,24 @@ pub fn write(flow: &[u8], sheet: &[u8], out: &mut [u8]) -> Transfer
     }
 }
 
-// Reads a file for a flow to a sheet in the lent bytes: any name, any bytes, any room.
+// Writes the file of a sheet for the flow that the words ask for into the lent bytes. Any words, any bytes, any room.
+pub fn write(flow: &[u8], sheet: &[u8], out: &mut [u8]) -> Transfer
+    ensures { λ a. ⌜ Wrote (asked (now (flow .entry))) (now (sheet .entry)) a (now (out .entry)) (now (out .exit)) ⌝ }
+{
+    match flow::find(flow) {
+        Named::Refused(refusal) => Transfer::Refused(refusal),
+        Named::Flow(n) => {
+            let table = flow::table_of(n);
+            let numbers = table.numbers;
+            let fixed = table.fixed;
+            write_by(&numbers, &fixed, sheet, out)
+        }
+    }
+}
+
+// Reads a file for the flow that the words ask for to a sheet in the lent bytes. Any words, any bytes, any room.
 pub fn read(flow: &[u8], file: &[u8], out: &mut [u8]) -> Transfer
-    ensures { λ a. ⌜ Read (now (flow .entry)) (now (file .entry)) a (now (out .entry)) (now (out .exit)) ⌝ }
+    ensures { λ a. ⌜ Read (asked (now (flow .entry))) (now (file .entry)) a (now (out .entry)) (now (out .exit)) ⌝ }
 {
     match judge::judge(flow, file) {
         Judged::Refused(refusal) => Transfer::Refused(refusal),

@@ -14,11 +14,12 @@ use Rattle.place.specs.Places.{fieldStart, placeAt}
 use Rattle.layout.specs.Layout.{among, find}
 use Rattle.flow.specs.Letters.{P0138001}
 use Rattle.flow.specs.Flows.{flowNumber}
+use Rattle.flow.specs.Editions.{usual, asked}
 use Rattle.fault.specs.Fields.{fieldFault, fieldsFault}
 use Rattle.fault.specs.Record.{placeFault, shapeFault, keyFault, footerFault, kindFault}
 use Rattle.judge.specs.Record.{lastKind, keyWith, keyBefore, fault}
-use Rattle.judge.specs.File.{checkedFrom, ended, judgedBy, verdict}
-use Rattle.value.specs.Value.{isThere, fieldValue, valueBy, valueIn, valued, Reply, refused, empty, number, text}
+use Rattle.judge.specs.File.{checkedFrom, ended, judgedBy}
+use Rattle.value.specs.Value.{isThere, fieldValue, valueAt, valueBy, valueIn, valued, Reply, refused, empty, number, text}
 
 -- a record and a field that are asked of a file for P0138001, and what is answered
 pub data Case : Type 0 where
@@ -26,7 +27,7 @@ pub data Case : Type 0 where
 
 pub given : List ℕ → List Case → List Reply
 given f [] = []
-given f (case n k r ∷ cs) = valued P0138001 f n k ∷ given f cs
+given f (case n k r ∷ cs) = valued (asked P0138001) f n k ∷ given f cs
 
 pub expected : List Case → List Reply
 expected [] = []
@@ -59,10 +60,10 @@ table =
 
 -- each is answered as the papers say
 pub value-cases : given example table ≡ expected table
-unfolding given expected example table joined onto records fields field turned words addRecord checksum minus unsigned plain intForm intValue decForm decValue spelled leap daysIn isDay isDate isTime textForm form range valueOf filled fieldAnswer among find flowNumber isDigit isText fieldFault fieldsFault lastKind keyWith keyBefore placeFault shapeFault keyFault footerFault kindFault fault checkedFrom ended judgedBy verdict isThere extent fieldStart placeAt fieldValue valueBy valueIn valued
+unfolding given expected example table joined onto records fields field turned words addRecord checksum minus unsigned plain intForm intValue decForm decValue spelled leap daysIn isDay isDate isTime textForm form range valueOf filled fieldAnswer among find flowNumber usual asked isDigit isText fieldFault fieldsFault lastKind keyWith keyBefore placeFault shapeFault keyFault footerFault kindFault fault checkedFrom ended judgedBy isThere extent fieldStart placeAt fieldValue valueAt valueBy valueIn valued
 value-cases = refl
 
 -- of a refused file the reader's refusal, whatever is asked: the empty file is 14 at record 1
-pub refused-file : valued P0138001 [] 0 9 ≡ refused 14 1 0 0
-unfolding flowNumber records lastKind checkedFrom ended judgedBy verdict placeAt valueIn valued
+pub refused-file : valued (asked P0138001) [] 0 9 ≡ refused 14 1 0 0
+unfolding flowNumber usual asked records lastKind checkedFrom ended judgedBy placeAt valueBy valueIn valued
 refused-file = refl

@@ -3,17 +3,15 @@ use Prim.Native.Nat.{ℕ}
 use mathlib.Core.Path.{_≡_, refl, sym, ap, subst, _∙_}
 use mathlib.Core.List.{List}
 use Rattle.text.proofs.Inverse.{same-said}
-use Rattle.record.specs.Records.{bar}
 use Rattle.place.specs.Places.{refusal}
 use Rattle.place.specs.declared.Refusal.{Refusal}
-use Rattle.judge.specs.File.{verdict, withPlace, judged, paper as readerPaper}
-use Rattle.judge.proofs.Demand2.{one-reply}
+use Rattle.judge.specs.File.{placedBy}
 use Rattle.judge.specs.declared.Judged.{Judged}
 use Rattle.judge.specs.declared.Judged.the-variants as files
 use Rattle.layout.specs.Layout.{Layout}
-use Rattle.flow.specs.Publication.{layoutFor}
-use Rattle.flow.specs.Flows.{flowNamed}
-use Rattle.value.specs.Value.{Reply, refused, empty, number, truth, text, paper, TextWithin, ofAccepted, valueBy, valueIn, valued}
+use Rattle.flow.specs.Publication.{Flow, layoutFor}
+use Rattle.flow.specs.Editions.{Asked, aFlow, noFlow}
+use Rattle.value.specs.Value.{Reply, refused, empty, number, truth, text, paper, TextWithin, ofAccepted, valueAt, valueBy, valueIn, valued}
 use Rattle.value.specs.declared.Value.{Value}
 use Rattle.value.specs.declared.Value.the-variants.{Refused, Empty, Number, Truth, Text}
 use Rattle.value.proofs.Places.{text-within}
@@ -37,32 +35,36 @@ pub paper-one : (f : List ℕ) (v w : Value) → paper f v ≡ paper f w → v �
 paper-one f v w e = same-said (paper f) said (said-paper f) v w e
 
 -- what is promised is the answer of the definition, and no other
-pub promised : (name f : List ℕ) (n k : ℕ) (v : Value) → paper f v ≡ valued name f n k → v ≡ valueIn name f n k
+pub promised : (a : Asked) (f : List ℕ) (n k : ℕ) (v : Value) → paper f v ≡ valued a f n k → v ≡ valueIn a f n k
 unfolding valued
-promised name f n k v e = paper-one f v (valueIn name f n k) e
+promised a f n k v e = paper-one f v (valueIn a f n k) e
 
-pub one-value : (name f : List ℕ) (n k : ℕ) (v w : Value) → paper f v ≡ valued name f n k → paper f w ≡ valued name f n k
-    → v ≡ w
-one-value name f n k v w e q = paper-one f v w (e ∙ sym q)
+pub one-value : (a : Asked) (f : List ℕ) (n k : ℕ) (v w : Value) → paper f v ≡ valued a f n k → paper f w ≡ valued a f n k → v ≡ w
+one-value a f n k v w e q = paper-one f v w (e ∙ sym q)
 
-module _ (name f : List ℕ) (n k : ℕ) where
+-- by a layout: the reader's refusal, or the value of an accepted file
+module _ (l : Layout) (f : List ℕ) (n k : ℕ) (j : Judged) (e : j ≡ placedBy l f) where
+  by-reader : ofAccepted j (valueAt l f n k) ≡ valueBy l f n k
+  unfolding valueBy
+  by-reader = ap (λ (w : Judged). ofAccepted w (valueAt l f n k)) e
+
+  pub reader-refused : {r : Refusal} → j ≡ files.Refused r → Refused r ≡ valueBy l f n k
+  reader-refused q = ap (λ (w : Judged). ofAccepted w (valueAt l f n k)) (sym q) ∙ by-reader
+
+  pub reader-accepted : {m : ℕ} → j ≡ files.Accepted m → {v : Value} → v ≡ valueAt l f n k → v ≡ valueBy l f n k
+  reader-accepted q is = is ∙ ap (λ (w : Judged). ofAccepted w (valueAt l f n k)) (sym q) ∙ by-reader
+
+-- for what is asked
+module _ (a : Asked) (f : List ℕ) (n k : ℕ) where
   -- both promises, of the definition's answer
-  pub right : {v : Value} → v ≡ valueIn name f n k → (paper f v ≡ valued name f n k) × TextWithin f v
+  pub right : {v : Value} → v ≡ valueIn a f n k → (paper f v ≡ valued a f n k) × TextWithin f v
   unfolding valued
-  right e = (ap (paper f) e, subst (TextWithin f) (sym e) (text-within name f n k))
+  right e = (ap (paper f) e, subst (TextWithin f) (sym e) (text-within a f n k))
 
-  -- the value by the reader's answer
-  abbrev after : Judged → Value
-  after w = ofAccepted w (valueBy (layoutFor (flowNamed name)) f n k)
+  pub no-flow : (r : Refusal) → noFlow r ≡ a → Refused r ≡ valueIn a f n k
+  unfolding valueIn
+  no-flow r e = ap (λ (x : Asked). valueIn x f n k) e
 
-  module _ (v : Judged) (e : readerPaper v ≡ judged name f) where
-    by-verdict : after v ≡ valueIn name f n k
-    unfolding judged valueIn
-    by-verdict = ap after (one-reply v (withPlace bar f (verdict name f)) e)
-
-    pub reader-refused : {r : Refusal} → v ≡ files.Refused r → Refused r ≡ valueIn name f n k
-    reader-refused q = ap after (sym q) ∙ by-verdict
-
-    pub reader-accepted : {m : ℕ} → v ≡ files.Accepted m → (l : Layout) → l ≡ layoutFor (flowNamed name)
-        → {w : Value} → w ≡ valueBy l f n k → w ≡ valueIn name f n k
-    reader-accepted q l e is = is ∙ ap (λ (x : Layout). valueBy x f n k) e ∙ ap after (sym q) ∙ by-verdict
+  pub by-flow : (fl : Flow) → aFlow fl ≡ a → (l : Layout) → l ≡ layoutFor fl → {v : Value} → v ≡ valueBy l f n k → v ≡ valueIn a f n k
+  unfolding valueIn
+  by-flow fl e l is w = w ∙ ap (λ (x : Layout). valueBy x f n k) is ∙ ap (λ (x : Asked). valueIn x f n k) e

@@ -16,11 +16,11 @@ use Rattle.field.specs.declared.FieldAnswer.{FieldAnswer}
 use Rattle.field.specs.declared.FieldAnswer.the-variants as answers
 use Rattle.layout.specs.Layout.{Layout}
 use Rattle.flow.specs.Publication.{layoutFor}
-use Rattle.flow.specs.Flows.{flowNamed}
-use Rattle.judge.specs.File.{verdict, withPlace}
+use Rattle.flow.specs.Editions.{Asked, aFlow, noFlow}
+use Rattle.judge.specs.File.{placedBy}
 use Rattle.judge.specs.declared.Judged.{Judged}
 use Rattle.judge.specs.declared.Judged.the-variants as files
-use Rattle.value.specs.Value.{isThere, endOf, textAt, asValue, answerIn, fieldValue, ofAccepted, valueBy, valueIn, paper, text, TextWithin}
+use Rattle.value.specs.Value.{isThere, endOf, textAt, asValue, answerIn, fieldValue, ofAccepted, valueAt, valueBy, valueIn, paper, text, TextWithin}
 use Rattle.value.specs.declared.Value.{Value}
 use Rattle.value.specs.declared.Value.the-variants.{Refused}
 
@@ -59,9 +59,9 @@ within-there : (f : List ℕ) (n k : ℕ) (v : Value) (b : Bool) → (b ≡ true
 within-there f n k v true h = h refl
 within-there f n k v false h = tt
 
-within-by : (l : Layout) (f : List ℕ) (n k : ℕ) → TextWithin f (valueBy l f n k)
-unfolding valueBy fieldValue
-within-by l f n k =
+within-at : (l : Layout) (f : List ℕ) (n k : ℕ) → TextWithin f (valueAt l f n k)
+unfolding valueAt fieldValue
+within-at l f n k =
     within-there f n k (fieldValue l f n k) (isThere f n k)
     (λ e.
     let p = text-lies f n k e in
@@ -72,6 +72,13 @@ within-accepted : (f : List ℕ) (w : Judged) (v : Value) → TextWithin f v →
 within-accepted f (files.Accepted n) v h = h
 within-accepted f (files.Refused r) v h = tt
 
-pub text-within : (name f : List ℕ) (n k : ℕ) → TextWithin f (valueIn name f n k)
+-- by any layout
+pub within-by : (l : Layout) (f : List ℕ) (n k : ℕ) → TextWithin f (valueBy l f n k)
+unfolding valueBy
+within-by l f n k = within-accepted f (placedBy l f) (valueAt l f n k) (within-at l f n k)
+
+-- and for whatever is asked
+pub text-within : (a : Asked) (f : List ℕ) (n k : ℕ) → TextWithin f (valueIn a f n k)
 unfolding valueIn
-text-within name f n k = within-accepted f (withPlace bar f (verdict name f)) _ (within-by (layoutFor (flowNamed name)) f n k)
+text-within (aFlow fl) f n k = within-by (layoutFor fl) f n k
+text-within (noFlow r) f n k = tt

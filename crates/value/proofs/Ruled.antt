@@ -24,7 +24,7 @@ use Rattle.layout.specs.Layout.{Rule, noRule, Layout}
 use Rattle.layout.specs.Numbers.{word, typeOf, fixedOf, ruleOf, layoutOf, RulesOf}
 use Rattle.layout.proofs.FieldRules.{rule-at, rule-past, type-is}
 use Rattle.fault.specs.Record.{kindOf}
-use Rattle.value.specs.Value.{isThere, endOf, ruleFor, byRule, asValue, fieldValue, valueBy}
+use Rattle.value.specs.Value.{isThere, endOf, ruleFor, byRule, asValue, fieldValue, valueAt}
 use Rattle.value.specs.declared.Value.{Value}
 use Rattle.value.specs.declared.Value.the-variants.{Refused, Text}
 
@@ -54,8 +54,8 @@ module _ (l : Layout) (f : List ℕ) (n k : ℕ) where
   fieldThere r = from-to 1 (length (fields bar r)) k
 
   -- there is no such record
-  pub no-record : (1 ≤ n → length (records f) < n) → missing ≡ valueBy l f n k
-  unfolding valueBy isThere
+  pub no-record : (1 ≤ n → length (records f) < n) → missing ≡ valueAt l f n k
+  unfolding valueAt isThere
   no-record h = sym (ap (λ (b : Bool). lastly (b && fieldThere (recordAt f n))) (counts-not (length (records f)) n h))
 
   -- there is, and it is the bytes r
@@ -70,8 +70,8 @@ module _ (l : Layout) (f : List ℕ) (n k : ℕ) where
         λ i. sym yes i && fieldThere (x .is .is i)
 
     -- there is no such field in it
-    pub no-field : (1 ≤ k → length (fields bar r) < k) → missing ≡ valueBy l f n k
-    unfolding valueBy
+    pub no-field : (1 ≤ k → length (fields bar r) < k) → missing ≡ valueAt l f n k
+    unfolding valueAt
     no-field h = sym (ap lastly (sym there-is ∙ counts-not (length (fields bar r)) k h))
 
     -- there is, and it stands from a up to e in the record
@@ -87,18 +87,18 @@ module _ (l : Layout) (f : List ℕ) (n k : ℕ) where
           let q = found-field bar f n k x y in
           (q, omega (arith, q, y .is .ordered, part-length r a e (y .is .ordered) (y .is .within), ap length bytes-are))
 
-      found : valueBy l f n k ≡ fieldValue l f n k
-      unfolding valueBy
+      found : valueAt l f n k ≡ fieldValue l f n k
+      unfolding valueAt
       found = ap lastly (sym there-is ∙ counts (length (fields bar r)) k (y .least) (y .most))
 
       -- a kind
-      pub kind-value : k ≡ 1 → Text (start + a) (start + e) ≡ valueBy l f n k
+      pub kind-value : k ≡ 1 → Text (start + a) (start + e) ≡ valueAt l f n k
       unfolding fieldValue
       kind-value z = (λ i. Text (placed .0 i) (placed .1 i)) ∙ sym (found ∙ rw (eq-eqb k 1 z))
 
       -- any other field
       pub ruled-value : (k ≡ 1 → ⊥) → {j : ℕ} {answer : FieldAnswer} {v : Value} → j ≡ kindOf bar l r → answer ≡ byRule (ruleFor l j k) s
-          → v ≡ asValue n k (start + a) (start + e) answer → v ≡ valueBy l f n k
+          → v ≡ asValue n k (start + a) (start + e) answer → v ≡ valueAt l f n k
       unfolding fieldValue
       ruled-value z kind is v =
           let j = kind ∙ ap (kindOf bar l) (x .is .is) in

@@ -14,9 +14,9 @@ use Rattle.field.specs.declared.FieldAnswer.{FieldAnswer}
 use Rattle.field.specs.declared.FieldAnswer.the-variants as answers
 use Rattle.layout.specs.Layout.{Layout, Rule, noRule, row}
 use Rattle.flow.specs.Publication.{layoutFor}
-use Rattle.flow.specs.Flows.{flowNamed}
+use Rattle.flow.specs.Editions.{Asked, aFlow, noFlow}
 use Rattle.fault.specs.Record.{kindOf}
-use Rattle.judge.specs.File.{verdict, withPlace}
+use Rattle.judge.specs.File.{placedBy}
 use Rattle.judge.specs.declared.Judged.{Judged}
 use Rattle.judge.specs.declared.Judged.the-variants as files
 use Rattle.value.specs.declared.Value.{Value}
@@ -63,13 +63,18 @@ abbrev pub ofAccepted : Judged → Value → Value
 ofAccepted (files.Accepted n) after = after
 ofAccepted (files.Refused r) after = Refused r
 
--- 18 for no such record or field, with the numbers as asked, then the value
-unfoldable pub valueBy : Layout → List ℕ → ℕ → ℕ → Value
-valueBy l f n k = must (isThere f n k) (Refused (refusalAt bar f 18 n k)) (fieldValue l f n k)
+-- of an accepted file 18 for no such record or field, with the numbers as asked, then the value
+unfoldable pub valueAt : Layout → List ℕ → ℕ → ℕ → Value
+valueAt l f n k = must (isThere f n k) (Refused (refusalAt bar f 18 n k)) (fieldValue l f n k)
 
--- the reader's refusals, then what follows of an accepted file
-unfoldable pub valueIn : List ℕ → List ℕ → ℕ → ℕ → Value
-valueIn name f n k = ofAccepted (withPlace bar f (verdict name f)) (valueBy (layoutFor (flowNamed name)) f n k)
+-- by a layout: the reader's refusals, then what follows of an accepted file
+unfoldable pub valueBy : Layout → List ℕ → ℕ → ℕ → Value
+valueBy l f n k = ofAccepted (placedBy l f) (valueAt l f n k)
+
+-- for what is asked: the refusal of what is asked comes first
+unfoldable pub valueIn : Asked → List ℕ → ℕ → ℕ → Value
+valueIn (aFlow fl) f n k = valueBy (layoutFor fl) f n k
+valueIn (noFlow r) f n k = Refused r
 
 -- the papers' answers: a refusal's number, record, field and place, or a value; of a text its place and its bytes
 pub data Reply : Type 0 where
@@ -87,9 +92,9 @@ paper f (Number z) = number z
 paper f (Truth b) = truth b
 paper f (Text from to) = text from to (take (to - from) (drop from f))
 
--- the value of one field of a file
-unfoldable pub valued : List ℕ → List ℕ → ℕ → ℕ → Reply
-valued name f n k = paper f (valueIn name f n k)
+-- the value of one field of a file for what is asked
+unfoldable pub valued : Asked → List ℕ → ℕ → ℕ → Reply
+valued a f n k = paper f (valueIn a f n k)
 
 -- what is promised besides: the place of a text is one within the file
 abbrev pub TextWithin : List ℕ → Value → Type 0

@@ -2,6 +2,7 @@
 use field::FieldAnswer;
 use field::FieldType;
 use field::Mark;
+use flow::Named;
 use judge::Judged;
 use place::Refusal;
 use record::BAR;
@@ -10,7 +11,8 @@ ghost use mathlib.Core.Path.{_≡_};
 ghost use mathlib.Core.List.{List};
 ghost use Prim.Native.Nat.{ℕ, _≤_};
 ghost use Rattle.layout.specs.Numbers.{layoutOf};
-ghost use Rattle.value.specs.Value.{ruleFor, byRule, asValue, valueBy, valued, paper, TextWithin};
+ghost use Rattle.flow.specs.Editions.{asked};
+ghost use Rattle.value.specs.Value.{ruleFor, byRule, asValue, valueAt, valueBy, valued, paper, TextWithin};
 
 // A refusal, or a value. A text's value is where its bytes start and end in the file.
 pub enum Value {
@@ -56,9 +58,9 @@ pub fn as_value(a: FieldAnswer, n: usize, k: usize, from: usize, to: usize) -> V
     }
 }
 
-// Field k of record n by a table: 18 where there is none, a kind's bytes, or its value by its rule.
-fn value_by(t: &[u32], fixed: &[u8], f: &[u8], n: usize, k: usize) -> Value
-    ensures { λ v. ⌜ v ≡ valueBy (layoutOf (now (t .entry)) (now (fixed .entry))) (now (f .entry)) n k ⌝ }
+// Field k of record n of an accepted file by a table: 18 where there is none, a kind's bytes, or its value by its rule.
+fn value_at(t: &[u32], fixed: &[u8], f: &[u8], n: usize, k: usize) -> Value
+    ensures { λ v. ⌜ v ≡ valueAt (layoutOf (now (t .entry)) (now (fixed .entry))) (now (f .entry)) n k ⌝ }
 {
     let Found::At { start, end } = record::record_at(f, n) else {
         return Value::Refused(place::at(BAR, f, 18, n, k));
@@ -83,14 +85,24 @@ fn value_by(t: &[u32], fixed: &[u8], f: &[u8], n: usize, k: usize) -> Value
     )
 }
 
-// The value of field k of record n of a file for a flow: the reader's refusals, 18, or the value. Any name, any bytes, any numbers.
-pub fn value_of(flow: &[u8], f: &[u8], n: usize, k: usize) -> Value
-    ensures { λ v. ⌜ (paper (now (f .entry)) v ≡ valued (now (flow .entry)) (now (f .entry)) n k) × TextWithin (now (f .entry)) v ⌝ }
+// Field k of record n of a file by a table: the reader's refusals, then what follows of an accepted file.
+fn value_by(t: &[u32], fixed: &[u8], f: &[u8], n: usize, k: usize) -> Value
+    ensures { λ v. ⌜ v ≡ valueBy (layoutOf (now (t .entry)) (now (fixed .entry))) (now (f .entry)) n k ⌝ }
 {
-    match judge::judge(flow, f) {
+    match judge::judge_by(t, fixed, f) {
         Judged::Refused(refusal) => Value::Refused(refusal),
-        Judged::Accepted(_) => {
-            let table = flow::table_of(flow::flow_number(flow));
+        Judged::Accepted(_) => value_at(t, fixed, f, n, k),
+    }
+}
+
+// The value of field k of record n of a file for the flow that the words ask for. Any words, any bytes, any numbers.
+pub fn value_of(flow: &[u8], f: &[u8], n: usize, k: usize) -> Value
+    ensures { λ v. ⌜ (paper (now (f .entry)) v ≡ valued (asked (now (flow .entry))) (now (f .entry)) n k) × TextWithin (now (f .entry)) v ⌝ }
+{
+    match flow::find(flow) {
+        Named::Refused(refusal) => Value::Refused(refusal),
+        Named::Flow(number) => {
+            let table = flow::table_of(number);
             let numbers = table.numbers;
             let fixed = table.fixed;
             value_by(&numbers, &fixed, f, n, k)

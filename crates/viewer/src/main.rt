@@ -10,11 +10,12 @@ ghost use mathlib.Core.Path.{_≡_};
 ghost use Prim.Native.Nat.{_≤_};
 ghost use lib.ListN.{replicate};
 ghost use Rattle.index.specs.Entries.{listed};
+ghost use Rattle.flow.specs.Editions.{asked};
 ghost use Rattle.index.specs.Code.{blank, begun};
 
 // Eight entries, lent as a list for the index of a file, and given back by value.
 fn list_of(flow: &[u8], f: &[u8]) -> [Entry; 8]
-    ensures { λ r. ⌜ r ≡ listed (now (flow .entry)) (now (f .entry)) (replicate 8 blank) ⌝ }
+    ensures { λ r. ⌜ r ≡ listed (asked (now (flow .entry))) (now (f .entry)) (replicate 8 blank) ⌝ }
 {
     let e = Entry {
         record: 0,
@@ -29,7 +30,7 @@ fn list_of(flow: &[u8], f: &[u8]) -> [Entry; 8]
 
 // What is said of a file and a list of eight entries, and how many entries the list then has of the file.
 fn answer_of(flow: &[u8], f: &[u8]) -> Begun
-    ensures { λ r. ⌜ (r ≡ begun (now (flow .entry)) (now (f .entry)) 8) × (r .count ≤ 8) ⌝ }
+    ensures { λ r. ⌜ (r ≡ begun (asked (now (flow .entry))) (now (f .entry)) 8) × (r .count ≤ 8) ⌝ }
 {
     index::begin(flow, f, 8)
 }

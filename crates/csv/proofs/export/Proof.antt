@@ -5,6 +5,7 @@ use lib.Seq.{length-take-le}
 use denote.Ref.{now}
 use borrow.Author.Needs.{needs}
 use Rattle.sheet.specs.Code.{put}
+use Rattle.flow.specs.Editions.{asked}
 use Rattle.csv.proofs.Handing.{front-text, front-short, export-refused, export-no-room, export-done, accepted-short}
 use Rattle.csv.proofs.export.Statement.{statement}
 use Rattle.csv.proofs.export.Tie as tie
@@ -33,7 +34,7 @@ text-size-requires c κs =
     let g = c .before .before .before .records .given in
     let s = c .before .last-start in
     let accepts = rw (g .1) at (c .before .before .before .before .before .judge .ensures) in
-    front-short (now (a .file)) (s .result) (s .ensures .0) (s .ensures .1) (accepted-short (now (a .flow)) (now (a .file)) (g .0 .0) accepts)
+    front-short (now (a .file)) (s .result) (s .ensures .0) (s .ensures .1) (accepted-short (asked (now (a .flow))) (now (a .file)) (g .0 .0) accepts)
 
 whole-requires : tie.Need-whole-requires
 whole-requires c κs = search needs
@@ -44,7 +45,7 @@ returns c =
     let g = c .before .before .before .before .before .before .records .given in
     let s = c .before .before .before .before .last-start in
     let t = c .before .before .text-size in
-    export-no-room (now (a .flow)) (now (a .file)) (now (a .out)) (g .0 .0) (t .result) (rw (g .1) at (c .before .before .before .before .before .before .before .before .judge .ensures))
+    export-no-room (asked (now (a .flow))) (now (a .file)) (now (a .out)) (g .0 .0) (t .result) (rw (g .1) at (c .before .before .before .before .before .before .before .before .judge .ensures))
     (t .ensures ∙ ap length (front-text (now (a .file)) (s .result) (s .ensures .0) (s .ensures .1))) (c .whole .ensures) (c .before .if1 .taken)
 
 slice-aggregate-put-text : tie.Need-slice-aggregate-put-text
@@ -60,7 +61,7 @@ returns-2 : tie.Need-returns-2
 returns-2 c =
     let a = c .before .before .before .before .before .before .before .args in
     let g = c .before .refusal .given in
-    export-refused (now (a .flow)) (now (a .file)) (now (a .out)) _ (rw (g .1) at (c .before .before .before .judge .ensures))
+    export-refused (asked (now (a .flow))) (now (a .file)) (now (a .out)) _ (rw (g .1) at (c .before .before .before .judge .ensures))
 
 same-length : tie.Need-same-length
 same-length c = search needs
@@ -73,7 +74,7 @@ returns-3 c =
     let t = c .before .before .before .before .before .before .text-size in
     let p = c .before .before .put-text in
     let is = front-text (now (a .file)) (s .result) (s .ensures .0) (s .ensures .1) in
-    export-done (now (a .flow)) (now (a .file)) (now (a .out)) (g .0 .0) (t .result) (rw (g .1) at (c .before .before .before .before .before .before .before .before .before .before .before .before .judge .ensures))
+    export-done (asked (now (a .flow))) (now (a .file)) (now (a .out)) (g .0 .0) (t .result) (rw (g .1) at (c .before .before .before .before .before .before .before .before .before .before .before .before .judge .ensures))
     (t .ensures ∙ ap length is) (p .last .0) (c .before .before .before .before .before .if1 .left) (p .ensures ∙ ap (put (now (a .out)) 0) is)
 
 pub export-spec : {M : Type 1} → statement M

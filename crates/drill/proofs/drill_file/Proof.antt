@@ -1,6 +1,7 @@
 -- A good file is within the limit.
 use mathlib.Core.Path.{sym, ap, _∙_}
 use denote.Ref.{now}
+use Rattle.flow.specs.Editions.{asked}
 use Rattle.judge.specs.File.{paper}
 use Rattle.drill.proofs.Tallies.{good-fits}
 use borrow.Author.Needs.{needs}
@@ -27,7 +28,7 @@ run-requires c κs =
     let r = c .before .before .before .before .before .before in
     let j = r .before .before in
     let a = j .before .before .before .before .args in
-    good-fits (now (a .flow)) (now (a .file)) (r .records .given .0 .0) (sym (j .judge .ensures) ∙ ap paper (r .records .given .1))
+    good-fits (asked (now (a .flow))) (now (a .file)) (r .records .given .0 .0) (sym (j .judge .ensures) ∙ ap paper (r .records .given .1))
 
 enum-known-r : tie.Need-enum-known-r
 enum-known-r c = search needs

@@ -1,91 +1,66 @@
--- The table is that of the name's flow, so its walk, its followers and its last row are the grammar's. Assumes nothing.
-use mathlib.Core.Path.{sym, ap, _∙_, subst}
+-- The table is that of the flow asked for, which is proper; so its step is right for the flow. Assumes nothing.
+use Prim.Native.Nat.{ℕ}
+use mathlib.Core.Path.{_≡_, refl, sym, ap, _∙_, subst}
+use mathlib.Core.List.{List}
 use denote.Ref.{now}
-use Rattle.layout.specs.Layout.{Layout, isFooter}
-use Rattle.flow.specs.ByTable.{walkBy, followersBy}
-use Rattle.flow.specs.Step.{kindsIn, Lists}
-use Rattle.flow.proofs.Answers.{answer-refused, answer-stopped, answer-through}
+use Rattle.layout.specs.Layout.{Layout}
+use Rattle.flow.specs.Flows.{flowAt}
+use Rattle.flow.specs.Editions.{Asked, told, asked}
+use Rattle.flow.specs.ByTable.{SteppedBy}
+use Rattle.flow.specs.Step.{StepRight}
+use Rattle.flow.specs.declared.StepAnswer.the-variants as answers
+use Rattle.flow.proofs.Proper.{held-proper}
+use Rattle.flow.proofs.Answers.{step-right}
 use borrow.Author.Needs.{needs}
 use Rattle.flow.proofs.step.Statement.{statement}
 use Rattle.flow.proofs.step.Tie as tie
 
-flow-number-requires : tie.Need-flow-number-requires
-flow-number-requires c κs = search needs
+find-requires : tie.Need-find-requires
+find-requires c κs = search needs
 
-returns : tie.Need-returns
-returns c =
-    let a = c .before .before .before .before .args in
-    let n = c .before .flow-number in
-    answer-refused (now (a .flow)) (now (a .kinds)) (n .result) (n .ensures .0) (c .if1 .taken) (now (a .follow))
+enum-known-refusal : tie.Need-enum-known-refusal
+enum-known-refusal c = search needs
+
+enum-known-n : tie.Need-enum-known-n
+enum-known-n c = search needs
 
 table-of-requires : tie.Need-table-of-requires
 table-of-requires c κs = search needs
 
-slice-aggregate-walk : tie.Need-slice-aggregate-walk
-slice-aggregate-walk c = search needs
+slice-aggregate-step-by : tie.Need-slice-aggregate-step-by
+slice-aggregate-step-by c = search needs
 
-walk-requires : tie.Need-walk-requires
-walk-requires c κs = search needs
+step-by-requires : tie.Need-step-by-requires
+step-by-requires c κs = search needs
 
-enum-known-place : tie.Need-enum-known-place
-enum-known-place c = search needs
-
-enum-known-last : tie.Need-enum-known-last
-enum-known-last c = search needs
-
-slice-aggregate-put-followers : tie.Need-slice-aggregate-put-followers
-slice-aggregate-put-followers c = search needs
-
-put-followers-requires : tie.Need-put-followers-requires
-put-followers-requires c κs = search needs
-
-slice-aggregate-is-footer : tie.Need-slice-aggregate-is-footer
-slice-aggregate-is-footer c = search needs
-
-is-footer-requires : tie.Need-is-footer-requires
-is-footer-requires c κs = search needs
+returns : tie.Need-returns
+returns c =
+    let a = c .before .before .before .before .before .before .args in
+    let r = c .before .refusal .given in
+    let is = ap told (sym (r .1)) ∙ c .before .before .before .find .ensures in
+    subst (λ (x : Asked). StepRight x (now (a .kinds)) (answers.Refused (r .0 .0)) (now (a .follow)) (now (a .follow))) is (refl, refl)
 
 returns-2 : tie.Need-returns-2
 returns-2 c =
     let a = c .before .before .before .before .before .before .before .before .before .before .before .args in
-    let n = c .before .before .before .before .before .before .before .before .flow-number in
-    let t = c .before .before .before .before .before .before .table-of in
-    let w = c .before .before .before .walk in
-    let some = c .before .before .before .before .before .before .before .if1 .left in
-    let p = c .before .place .given in
-    answer-stopped (now (a .flow)) (now (a .kinds)) (n .result) (n .ensures .0) some (p .0 .0) (now (a .follow))
-    (sym (p .1) ∙ w .ensures (t .result .fixed) ∙ ap (λ (l : Layout). walkBy l (kindsIn (now (a .kinds)))) (t .ensures))
-
-returns-3 : tie.Need-returns-3
-returns-3 c =
-    let a = c .before .before .before .before .before .before .before .before .before .before .before .before .before .before .before .before .args in
-    let n = c .before .before .before .before .before .before .before .before .before .before .before .before .before .flow-number in
-    let t = c .before .before .before .before .before .before .before .before .before .before .before .table-of in
-    let w = c .before .before .before .before .before .before .before .before .walk in
-    let r = c .before .before .before .before .before .before .last .given in
-    let p = c .before .before .put-followers in
-    let new = p .last .1 .1 .0 in
-    let some = c .before .before .before .before .before .before .before .before .before .before .before .before .if1 .left in
-    answer-through (now (a .flow)) (now (a .kinds)) (n .result) (n .ensures .0) some (r .0 .0)
-    (p .result) (c .is-footer .result) (now (a .follow)) new
-    (sym (r .1) ∙ w .ensures (t .result .fixed) ∙ ap (λ (l : Layout). walkBy l (kindsIn (now (a .kinds)))) (t .ensures))
-    (subst (λ (l : Layout). Lists (followersBy l (r .0 .0)) (p .result) (now (a .follow)) new) (t .ensures) (p .ensures (t .result .fixed)))
-    (c .is-footer .ensures (t .result .fixed) ∙ ap (λ (l : Layout). isFooter l (r .0 .0)) (t .ensures))
+    let n = c .before .before .before .before .before .before .n .given in
+    let is = ap told (sym (n .1)) ∙ c .before .before .before .before .before .before .before .before .find .ensures in
+    let t = c .before .before .before .before .table-of in
+    let s = c .step-by in
+    let new = s .last .1 .1 .0 in
+    subst (λ (x : Asked). StepRight x (now (a .kinds)) (s .result) (now (a .follow)) new) is
+    (step-right (flowAt (n .0 .0)) (held-proper (n .0 .0)) (now (a .kinds)) (s .result) (now (a .follow)) new
+    (subst (λ (l : Layout). SteppedBy l (now (a .kinds)) (s .result) (now (a .follow)) new) (t .ensures) (s .ensures (t .result .fixed))))
 
 pub step-spec : {M : Type 1} → statement M
 step-spec =
     tie.close
     (tie.spec
-    flow-number-requires
-    returns
+    find-requires
+    enum-known-refusal
+    enum-known-n
     table-of-requires
-    slice-aggregate-walk
-    walk-requires
-    enum-known-place
-    enum-known-last
-    slice-aggregate-put-followers
-    put-followers-requires
-    slice-aggregate-is-footer
-    is-footer-requires
-    returns-2
-    returns-3)
+    slice-aggregate-step-by
+    step-by-requires
+    returns
+    returns-2)

@@ -1,4 +1,4 @@
--- `index::fill` meets its contract: a walk of its MIR, by hand, with no loop and no branch. The table is a local array, lent to `fill_by` as a shared slice while the list is lent to it again, each for a lifetime that the walk makes; both come back.
+-- `index::fill` meets its contract: a walk of its MIR, by hand, with no loop and no branch. The table is a local array, lent to `store_first` as a shared slice while the list is lent to it again, each for a lifetime that the walk makes; both come back.
 use mathlib.Core.Path.{_≡_, refl, sym, ap, subst}
 use Prim.Native.Nat.{ℕ, _<_, _^_}
 use mathlib.Core.List.{List, [], _∷_}
@@ -44,11 +44,10 @@ use denote.Triple.Entry.{onEntry}
 use denote.Triple.Spec.{Meets, tripleOf}
 use denote.Triple.Table.{entered, cited}
 use denote.Triple.Walked.{says, Stays, stay-slice, stay-none-slice, walkOf, Walks, ends-at, walked, goes-slice, goes-none-slice, walk-meets}
-use Rattle.flow.specs.Flows.{flowNamed}
+use Rattle.flow.specs.Editions.{asked}
 use Rattle.index.specs.declared.Entry.{Entry}
 use Rattle.index.specs.declared.Begun.{Begun}
-use Rattle.index.specs.Entries.{kindsFor}
-use Rattle.index.specs.Code.{kindsIn, begun, stored}
+use Rattle.index.specs.Code.{kindsIn, begun, HasKinds, stored}
 use Rattle.index.proofs.Again.{LentAgain, lends-again, comes-back}
 use Rattle.index.proofs.Stored.{count-fits, count-there, filled-right}
 use Rattle.index.proofs.Entry as T
@@ -64,10 +63,10 @@ use Rattle.index.proofs.numbers_for as numbers
 use Rattle.index.proofs.numbers_for.Symbol as numbers-def
 use Rattle.index.proofs.numbers_for.Symbol.{name as #index·numbers-for}
 use Rattle.index.proofs.numbers_for.Met as numbers-thm
-use Rattle.index.proofs.fill_by as by′
-use Rattle.index.proofs.fill_by.Symbol as by-def
-use Rattle.index.proofs.fill_by.Symbol.{name as #index·fill-by}
-use Rattle.index.proofs.fill_by.Met as by-thm
+use Rattle.index.proofs.store_first as first′
+use Rattle.index.proofs.store_first.Symbol as first-def
+use Rattle.index.proofs.store_first.Symbol.{name as #index·store-first}
+use Rattle.index.proofs.store_first.Met as first-thm
 use Rattle.index.proofs.fill.Key.{name as #index·fill}
 use Rattle.index.proofs.fill as f
 use Rattle.index.proofs.fill.Statement as stated
@@ -133,8 +132,8 @@ module _ {M : Type 1} (𝓤 : URA M) (H : Heap 𝓤) (A : Atoms 𝓤) (at-mem : 
   abbrev Numbers : Contract 𝓤
   Numbers = tripleOf 𝓤 H A numbers.signature (numbers.spec 𝓤 H A at-mem run)
 
-  abbrev FillBy : Contract 𝓤
-  FillBy = tripleOf 𝓤 H A by′.signature (by′.spec 𝓤 H A at-mem run)
+  abbrev First : Contract 𝓤
+  First = tripleOf 𝓤 H A first′.signature (first′.spec 𝓤 H A at-mem run)
 
 -- ---- the local array is a row of numbers in memory, and its room is had again
 abbrev Laid : List ℕ → ℕ → Fml
@@ -157,7 +156,7 @@ module _ {M : Type 1} (𝓤 : URA M) (H : Heap 𝓤) (A : Atoms 𝓤) (W : Given
 
 module _ {M : Type 1} (𝓤 : URA M) (H : Heap 𝓤) (A : Atoms 𝓤) (W : Given 𝓤 H A) (at-mem : Memory → SProp 𝓤) (run : Routine → Fun 𝓤) (κ₁ κ₂ κ : Lft) (q₁ q₂ q : Share)
     (b₁ o₁ : ℕ) (γ₁ : GName) (ns : List ℕ) (b₂ o₂ : ℕ) (γ₂ : GName) (fs : List ℕ) (b o : ℕ) (γ : GName) (ys : List Entry) where
-  -- the flow's name; the file; list, under the name δ at the list es
+  -- the words; the file; list, under the name δ at the list es
   abbrev x₁ : RefT (List ℕ)
   x₁ = record { ptr = (b₁, o₁); name = γ₁; now = ns }
 
@@ -216,8 +215,8 @@ module _ {M : Type 1} (𝓤 : URA M) (H : Heap 𝓤) (A : Atoms 𝓤) (W : Given
       qed W (Toks ∷ (‵ Own₁ ⊛ ‵ Own₂) ∷ []) ∵ nothing ! $ owned ! usize (Is usize) (uint-makes 𝓤 H A W w64) size _ (refl, g) $ fjoin ! $
       move ! (2 ∷ []) $ split ! $ move ! (1 ∷ 2 ∷ []) $ fjoin ! $ move ! (1 ∷ 0 ∷ []) $ fjoin ! $ move ! (1 ∷ 0 ∷ []) $ join ! $ frame ! $ done !
 
-  said-begin : (r : Begun) → ent 𝓤 (ensured 𝓤 H A begin.ended (begin.clauses 𝓤 H A at-mem run) (κ₁, (κ₂, tt)) (x₁, (x₂, (size, tt))) tt r) (fact 𝓤 (r ≡ begun ns fs size))
-  said-begin r = exE 𝓤 _ (λ ws. snd∗ 𝓤 (sem 𝓤 H A (lasts begin.ended (κ₁, (κ₂, tt)) (x₁, (x₂, (size, tt))) ws)) (fact 𝓤 (r ≡ begun ns fs size)))
+  said-begin : (r : Begun) → ent 𝓤 (ensured 𝓤 H A begin.ended (begin.clauses 𝓤 H A at-mem run) (κ₁, (κ₂, tt)) (x₁, (x₂, (size, tt))) tt r) (fact 𝓤 (r ≡ begun (asked ns) fs size))
+  said-begin r = exE 𝓤 _ (λ ws. snd∗ 𝓤 (sem 𝓤 H A (lasts begin.ended (κ₁, (κ₂, tt)) (x₁, (x₂, (size, tt))) ws)) (fact 𝓤 (r ≡ begun (asked ns) fs size)))
 
   abbrev to-numbers : Numbers 𝓤 H A at-mem run .Ghost
   to-numbers = (((κ₁, tt), (q₁, tt), tt, (x₁, tt), (v₁ ∷ [], tt)), tt)
@@ -227,7 +226,7 @@ module _ {M : Type 1} (𝓤 : URA M) (H : Heap 𝓤) (A : Atoms 𝓤) (W : Given
       qed W (‵ (flft κ₁ q₁) ∷ ‵ Own₁ ∷ []) ∵ nothing ! $ move ! (2 ∷ 0 ∷ []) $ fjoin ! $ nothing ! $ move ! (2 ∷ 0 ∷ []) $ join ! $ join ! $ frame ! $ done !
 
   abbrev Right : List ℕ → Type 0
-  Right ts = kindsIn ts ≡ kindsFor (flowNamed ns)
+  Right ts = HasKinds (asked ns) (kindsIn ts)
 
   said-numbers : (ts : List ℕ) → ent 𝓤 (ensured 𝓤 H A numbers.ended (numbers.clauses 𝓤 H A at-mem run) (κ₁, tt) (x₁, tt) tt ts) (fact 𝓤 (Right ts))
   said-numbers ts = exE 𝓤 _ (λ ws. snd∗ 𝓤 (sem 𝓤 H A (lasts numbers.ended (κ₁, tt) (x₁, tt) ws)) (fact 𝓤 (Right ts)))
@@ -248,19 +247,19 @@ module _ {M : Type 1} (𝓤 : URA M) (H : Heap 𝓤) (A : Atoms 𝓤) (W : Given
   abbrev Toks₃ : ℕ → ℕ → Item 𝓤
   Toks₃ α ν = ‵ (flft (ν ∷ []) fullShare) ⊛ ‵ (flft (α ∷ []) fullShare) ⊛ Tok₂
 
-  abbrev to-by : Begun → List ℕ → ℕ → ℕ → GName → ℕ → GName → FillBy 𝓤 H A at-mem run .Ghost
-  to-by r ts l α β ν δ = (((ν ∷ [], (α ∷ [], (κ₂, tt))), (fullShare, (fullShare, (q₂, tt))), tt, (xn δ ys, (xt ts l β, (x₂, (r .count, tt)))), (v ∷ [], (vt ts l ∷ [], (v₂ ∷ [], (vint w64 (r .count) ∷ [], tt))))), tt)
+  abbrev to-first : Begun → List ℕ → ℕ → ℕ → GName → ℕ → GName → First 𝓤 H A at-mem run .Ghost
+  to-first r ts l α β ν δ = (((ν ∷ [], (α ∷ [], (κ₂, tt))), (fullShare, (fullShare, (q₂, tt))), tt, (xn δ ys, (xt ts l β, (x₂, (r .count, tt)))), (v ∷ [], (vt ts l ∷ [], (v₂ ∷ [], (vint w64 (r .count) ∷ [], tt))))), tt)
 
-  -- the list that `fill_by` leaves
+  -- the list that `store_first` leaves
   abbrev Left : Begun → List ℕ → List Entry → Type 0
   Left r ts zs = zs ≡ stored (kindsIn ts) fs (r .count) ys
 
   -- what is known of what `begin` gave: what it is, that its number fits, and its answer's machine value; and of the table
-  module _ (r : Begun) (er : r ≡ begun ns fs size) (cf : r .count < 2 ^ 64) (ia : Is I.the-row (r .answer) (I′.lowered (r .answer) ∷ [])) (ts : List ℕ) (et : Right ts) where
-    goes-by : (l α : ℕ) (β : GName) (ν : ℕ) (δ : GName) → ent 𝓤 (sep 𝓤 (sep 𝓤 (A .lft (ν ∷ []) fullShare) (sep 𝓤 (A .lft (α ∷ []) fullShare) (sep 𝓤 (A .lft κ₂ q₂) (sem 𝓤 H A ftrue)))) (sep 𝓤 (sem 𝓤 H A (MutN ν δ)) (sep 𝓤 (sem 𝓤 H A (OwnT ts l α β)) (sem 𝓤 H A Own₂))))
-        (FillBy 𝓤 H A at-mem run .pre (to-by r ts l α β ν δ))
-    goes-by l α β ν δ =
-        qed W (Toks₃ α ν ∷ ‵ (MutN ν δ) ∷ (‵ (OwnT ts l α β) ⊛ ‵ Own₂) ∷ []) ∵ says ! (count-fits ns fs ys r er, count-there ns fs ys r er ts et) $ frame ! $ move ! (1 ∷ []) $ split ! $
+  module _ (r : Begun) (er : r ≡ begun (asked ns) fs size) (cf : r .count < 2 ^ 64) (ia : Is I.the-row (r .answer) (I′.lowered (r .answer) ∷ [])) (ts : List ℕ) (et : Right ts) where
+    goes-first : (l α : ℕ) (β : GName) (ν : ℕ) (δ : GName) → ent 𝓤 (sep 𝓤 (sep 𝓤 (A .lft (ν ∷ []) fullShare) (sep 𝓤 (A .lft (α ∷ []) fullShare) (sep 𝓤 (A .lft κ₂ q₂) (sem 𝓤 H A ftrue)))) (sep 𝓤 (sem 𝓤 H A (MutN ν δ)) (sep 𝓤 (sem 𝓤 H A (OwnT ts l α β)) (sem 𝓤 H A Own₂))))
+        (First 𝓤 H A at-mem run .pre (to-first r ts l α β ν δ))
+    goes-first l α β ν δ =
+        qed W (Toks₃ α ν ∷ ‵ (MutN ν δ) ∷ (‵ (OwnT ts l α β) ⊛ ‵ Own₂) ∷ []) ∵ says ! (count-fits (asked ns) fs ys r er, count-there (asked ns) fs ys r er ts et) $ frame ! $ move ! (1 ∷ []) $ split ! $
         nothing ! $ owned ! usize (Is usize) (uint-makes 𝓤 H A W w64) (r .count) _ (refl, cf) $ fjoin ! $ move ! (2 ∷ 0 ∷ []) $ fjoin ! $ move ! (1 ∷ 0 ∷ []) $ fjoin ! $ move ! (1 ∷ 0 ∷ []) $ fjoin ! $ done !
 
     -- ---- the exit
@@ -268,11 +267,11 @@ module _ {M : Type 1} (𝓤 : URA M) (H : Heap 𝓤) (A : Atoms 𝓤) (W : Given
     exits zs left same =
         qed W (‵ (flft κ q) ∷ Tok₂ ∷ Tok₁ ∷ ‵ Own₁ ∷ ‵ Own₂ ∷ ‵ (Mut zs) ∷ []) ∵
         suffices ! _ (ends-at 𝓤 H A f.ended stayed (f.clauses 𝓤 H A at-mem run) W (((κ₁, (κ₂, (κ, tt))), (q₁, (q₂, (q, tt))), tt, a, at), tt) (I′.lowered (r .answer)) (r .answer) (tt, (tt, (zs, tt))) (tt, (tt, (same, tt)))) $
-        says ! (filled-right ns fs ys r er ts et zs left) $
+        says ! (filled-right (asked ns) fs ys r er ts et zs left) $
         move ! (1 ∷ []) $ split ! $ move ! (2 ∷ 1 ∷ []) $ join ! $ move ! (1 ∷ 0 ∷ []) $ join ! $ move ! (1 ∷ []) $ split ! $ move ! (0 ∷ 2 ∷ []) $ join ! $ frame ! $
         move ! (3 ∷ 0 ∷ []) $ fjoin ! $ move ! (2 ∷ 0 ∷ []) $ fjoin ! $ move ! (1 ∷ 0 ∷ []) $ fjoin ! $ frame ! $ owned ! I.the-row (Is I.the-row) ((EL.makes I.the-type I′.the-plain) 𝓤 H A) (r .answer) _ ia $ done !
 
-  module _ (𝓣 : Tables 𝓤 H) (known-begin : Triple 𝓤 (𝓣 .C #index·begin) (Begin 𝓤 H A at-mem run)) (known-numbers : Triple 𝓤 (𝓣 .C #index·numbers-for) (Numbers 𝓤 H A at-mem run)) (known-by : Triple 𝓤 (𝓣 .C #index·fill-by) (FillBy 𝓤 H A at-mem run))
+  module _ (𝓣 : Tables 𝓤 H) (known-begin : Triple 𝓤 (𝓣 .C #index·begin) (Begin 𝓤 H A at-mem run)) (known-numbers : Triple 𝓤 (𝓣 .C #index·numbers-for) (Numbers 𝓤 H A at-mem run)) (known-first : Triple 𝓤 (𝓣 .C #index·store-first) (First 𝓤 H A at-mem run))
       (gs : Room u8 (length ns)) (gf : Room u8 (length fs)) (gn : Room R size) where
     abbrev C : Calls 𝓤 H
     C = 𝓣 .C
@@ -299,7 +298,7 @@ module _ {M : Type 1} (𝓤 : URA M) (H : Heap 𝓤) (A : Atoms 𝓤) (W : Given
       abbrev room-at : Item 𝓤
       room-at = ‵ (fat fullShare word l₄ 0 (vint w64 size))
 
-      module _ (r : Begun) (er : r ≡ begun ns fs size) (cf : r .count < 2 ^ 64) (ia : Is I.the-row (r .answer) (I′.lowered (r .answer) ∷ [])) where
+      module _ (r : Begun) (er : r ≡ begun (asked ns) fs size) (cf : r .count < 2 ^ 64) (ia : Is I.the-row (r .answer) (I′.lowered (r .answer) ∷ [])) where
         module _ (ts : List ℕ) (et : Right ts) where
           -- once the list and the table are back
           ends : (zs : List Entry) → Left r ts zs → length zs ≡ size
@@ -311,7 +310,7 @@ module _ {M : Type 1} (𝓤 : URA M) (H : Heap 𝓤) (A : Atoms 𝓤) (W : Given
               move ! (16 ∷ 17 ∷ []) $ free1 ! $ move ! (14 ∷ 15 ∷ []) $ free1 ! $ move ! (12 ∷ 13 ∷ []) $ free1 ! $ move ! (10 ∷ 11 ∷ []) $ free1 ! $ move ! (8 ∷ 9 ∷ []) $ free1 ! $ move ! (6 ∷ 7 ∷ []) $ free1 ! $ free0 ! $
               by ! (exits r er cf ia ts et zs left same)
 
-          -- once `numbers_for` has returned: what `fill_by` takes is lent to it, and comes back
+          -- once `numbers_for` has returned: what `store_first` takes is lent to it, and comes back
           lends : (w : Val) → Is Nums ts (w ∷ [])
               → Sq W (‵ (Nums .own ts (w ∷ [])) ∷ Tok₁ ∷ ‵ Own₁ ∷ Tok₂ ∷ ‵ Own₂ ∷ ‵ (Mut ys) ∷ ‵ (flft κ q) ∷ Locals (‵ (fat fullShare arr l₇ 0 w)) (begun-at r) room-at) (runs C Λ En M′.t-4 (atRet En Post))
           lends w is =
@@ -331,12 +330,12 @@ module _ {M : Type 1} (𝓤 : URA M) (H : Heap 𝓤) (A : Atoms 𝓤) (W : Given
               use2 W (later (some (λ (δ : GName). ‵ (MutN ν δ) ⊛ ‵ (LentAgain R κ (ν ∷ []) q γ b o δ ys)))) (lends-again R κ (ν ∷ []) q γ b o 𝓤 H A W (named 2) (named 0) ys) $ await ! tt $ pick ! (λ δ. split ! $
               -- [list's; what is kept of it; its token; t's; what is kept of it; its token; flow's token; flow's; f's token; f's; _12; …]
               move ! (9 ∷ []) $ use1 W (‵ Own₂ ⊛ ‵ Own₂) (shr-slice-copy 𝓤 H A W (named 1) κ₂ u8 .twice x₂ (v₂ ∷ [])) $ split ! $ move ! (7 ∷ 10 ∷ []) $ join ! $ move ! (5 ∷ 0 ∷ []) $ join ! $
-              move ! (5 ∷ 1 ∷ []) $ join ! $ move ! (1 ∷ 3 ∷ 0 ∷ []) $ use3 W (raw (FillBy 𝓤 H A at-mem run .pre (to-by r ts l₆ α β ν δ))) (goes-by r er cf ia ts et l₆ α β ν δ) $
+              move ! (5 ∷ 1 ∷ []) $ join ! $ move ! (1 ∷ 3 ∷ 0 ∷ []) $ use3 W (raw (First 𝓤 H A at-mem run .pre (to-first r ts l₆ α β ν δ))) (goes-first r er cf ia ts et l₆ α β ν δ) $
               -- [what is asked; f's; what is kept of list; what is kept of t; flow's token; flow's; _12; …; _11; …; _10; …; _9; …; _8; …; _7; …; …; _5; …; _4; …; _3; …; _2; …; _1; …; _0; …]
-              calls-at ! fm (FillBy 𝓤 H A at-mem run) known-by (to-by r ts l₆ α β ν δ) (and-then ! (load ! (from ! (stop !)) (look ! 10 refl)) (and-then ! (load ! (from ! (stop !)) (look ! 6 refl)) (and-then ! (load ! (from ! (stop !)) (look ! 25 refl))
+              calls-at ! fm (First 𝓤 H A at-mem run) known-first (to-first r ts l₆ α β ν δ) (and-then ! (load ! (from ! (stop !)) (look ! 10 refl)) (and-then ! (load ! (from ! (stop !)) (look ! 6 refl)) (and-then ! (load ! (from ! (stop !)) (look ! 25 refl))
               (and-then ! (load ! (from ! (fld ! refl (stop !))) (look-in ! 19 (sub ! 1 {d = 40} refl (whole !)))) (no-more !))))) (λ u.
               use1 W (later (some (λ (r₁ : Unit {0}). (Toks₃ α ν ⊛ ‵ (unit .own r₁ (u ∷ [])))
-              ⊛ some (λ (ws : Lasts by′.ended (ν ∷ [], (α ∷ [], (κ₂, tt))) (xn δ ys, (xt ts l₆ β, (x₂, (r .count, tt))))). ‵ (lasts by′.ended (ν ∷ [], (α ∷ [], (κ₂, tt))) (xn δ ys, (xt ts l₆ β, (x₂, (r .count, tt)))) ws) ⊛ raw (fact 𝓤 (Left r ts (ws .0))))))) (id⊢ 𝓤 _) $ await ! tt $ pick ! (λ r₁.
+              ⊛ some (λ (ws : Lasts first′.ended (ν ∷ [], (α ∷ [], (κ₂, tt))) (xn δ ys, (xt ts l₆ β, (x₂, (r .count, tt))))). ‵ (lasts first′.ended (ν ∷ [], (α ∷ [], (κ₂, tt))) (xn δ ys, (xt ts l₆ β, (x₂, (r .count, tt)))) ws) ⊛ raw (fact 𝓤 (Left r ts (ws .0))))))) (id⊢ 𝓤 _) $ await ! tt $ pick ! (λ r₁.
               split ! $ move ! (1 ∷ []) $ pick ! (λ ws. split ! $ move ! (1 ∷ []) $ heard ! (Left r ts (ws .0)) (λ left. fsplit ! $ fsplit ! $ move ! (1 ∷ []) $ feqL ! (λ same.
               move ! (2 ∷ []) $ split ! $ move ! (1 ∷ []) $ peeks ! unit (Is unit) (shows 𝓤 H A unit) r₁ (u ∷ []) (λ isu.
               land ! (from ! (stop !)) (init ! 17 refl (nothing-lawful 𝓤 H A W .typed r₁ _ isu .0)) $
@@ -375,7 +374,7 @@ module _ {M : Type 1} (𝓤 : URA M) (H : Heap 𝓤) (A : Atoms 𝓤) (W : Given
           -- [what is asked; flow's; f's; list's; the token; _12; …]
           calls-at ! fm (Begin 𝓤 H A at-mem run) known-begin to-begin (and-then ! (load ! (from ! (stop !)) (look ! 27 refl)) (and-then ! (load ! (from ! (stop !)) (look ! 25 refl)) (and-then ! (load ! (from ! (stop !)) (look ! 21 refl)) (no-more !)))) (λ u.
           use1 W (later (some (λ (r : Begun). (Toks ⊛ ‵ (B.the-row .own r (u ∷ []))) ⊛ raw (ensured 𝓤 H A begin.ended (begin.clauses 𝓤 H A at-mem run) (κ₁, (κ₂, tt)) (x₁, (x₂, (size, tt))) tt r)))) (id⊢ 𝓤 _) $ await ! tt $ pick ! (λ r.
-          split ! $ move ! (1 ∷ []) $ use1 W (raw (fact 𝓤 (r ≡ begun ns fs size))) (said-begin r) $ heard ! (r ≡ begun ns fs size) (λ er.
+          split ! $ move ! (1 ∷ []) $ use1 W (raw (fact 𝓤 (r ≡ begun (asked ns) fs size))) (said-begin r) $ heard ! (r ≡ begun (asked ns) fs size) (λ er.
           split ! $ move ! (1 ∷ []) $ facts ! B.the-row (Is B.the-row) (shows 𝓤 H A B.the-row) r (u ∷ []) (λ is.
           land ! (from ! (stop !)) (init ! 19 refl (LL.lawful B.the-type B′.the-laws 𝓤 H A W .typed r _ is .0)) $
           rewrite ! 19 (λ (w : Val). ‵ (fat fullShare B′.mir l₅ 0 w)) (ap only (B′.lowers .val-is r _ is)) refl $
@@ -388,13 +387,13 @@ module _ {M : Type 1} (𝓤 : URA M) (H : Heap 𝓤) (A : Atoms 𝓤) (W : Given
         pass1 ! (init ! 22 refl (tt, (tt, (record { fits = gs .0 }, tt)))) $ pass1 ! (init ! 20 refl (tt, (tt, (record { fits = gf .0 }, tt)))) $ pass1 ! (init ! 18 refl (tt, (tt, (record { fits = gn .0 }, tt)))) $ pass0 ! $
         move ! (26 ∷ 27 ∷ []) $ starts l₀ l₁ l₂ l₃ l₄ l₅ l₆ l₇ l₈ l₉ l₁₀ l₁₁ l₁₂)))))))))))))
 
-module _ {M : Type 1} (𝓤 : URA M) (H : Heap 𝓤) (A : Atoms 𝓤) (W : Given 𝓤 H A) (at-mem : Memory → SProp 𝓤) (run : Routine → Fun 𝓤) (𝓣 : Tables 𝓤 H) (known-begin : Triple 𝓤 (𝓣 .C #index·begin) (Begin 𝓤 H A at-mem run)) (known-numbers : Triple 𝓤 (𝓣 .C #index·numbers-for) (Numbers 𝓤 H A at-mem run)) (known-by : Triple 𝓤 (𝓣 .C #index·fill-by) (FillBy 𝓤 H A at-mem run)) where
+module _ {M : Type 1} (𝓤 : URA M) (H : Heap 𝓤) (A : Atoms 𝓤) (W : Given 𝓤 H A) (at-mem : Memory → SProp 𝓤) (run : Routine → Fun 𝓤) (𝓣 : Tables 𝓤 H) (known-begin : Triple 𝓤 (𝓣 .C #index·begin) (Begin 𝓤 H A at-mem run)) (known-numbers : Triple 𝓤 (𝓣 .C #index·numbers-for) (Numbers 𝓤 H A at-mem run)) (known-first : Triple 𝓤 (𝓣 .C #index·store-first) (First 𝓤 H A at-mem run)) where
   fill-walks : Walks 𝓤 H A f.ended stayed (WpFn 𝓤 H (𝓣 .C) (𝓣 .Λ) code.function) (f.clauses 𝓤 H A at-mem run)
   fill-walks = walked 𝓤 H A f.ended stayed (f.clauses 𝓤 H A at-mem run) (WpFn 𝓤 H (𝓣 .C) (𝓣 .Λ) code.function)
       (λ κs. (slice-vals, (slice-vals, (slice-vals, tt)))) (λ κs. (shr-slice-tells (named 0) (κs .0) u8, (shr-slice-tells (named 1) (κs .1 .0) u8, (mut-slice-tells (named 2) (κs .1 .1 .0) R, tt))))
       (λ κs qs bounds a g are. via 𝓤 _ (fst∗ 𝓤 _ (emp 𝓤))
       (walk 𝓤 H A W at-mem run (κs .0) (κs .1 .0) (κs .1 .1 .0) (qs .0) (qs .1 .0) (qs .1 .1 .0) (a .0 .ptr .0) (a .0 .ptr .1) (a .0 .name) (a .0 .now) (a .1 .0 .ptr .0) (a .1 .0 .ptr .1) (a .1 .0 .name) (a .1 .0 .now)
-      (a .1 .1 .0 .ptr .0) (a .1 .1 .0 .ptr .1) (a .1 .1 .0 .name) (a .1 .1 .0 .now) 𝓣 known-begin known-numbers known-by (are .0 .0 .1) (are .1 .0 .0 .1) (are .1 .1 .0 .0 .1)))
+      (a .1 .1 .0 .ptr .0) (a .1 .1 .0 .ptr .1) (a .1 .1 .0 .name) (a .1 .1 .0 .now) 𝓣 known-begin known-numbers known-first (are .0 .0 .1) (are .1 .0 .0 .1) (are .1 .1 .0 .0 .1)))
 
   fill-meets : Meets 𝓤 H A f.signature (WpFn 𝓤 H (𝓣 .C) (𝓣 .Λ) code.function) (f.spec 𝓤 H A at-mem run)
   fill-meets =
@@ -409,4 +408,4 @@ fill-spec 𝓤 H 𝓜 𝓖 𝓡 =
     (fill-meets 𝓤 H (𝓖 .A) (givenOf 𝓤 H 𝓜 𝓖) (𝓜 .mem) (𝓡 .run) (tablesOf 𝓤 H 𝓜 (tables 𝓤 H 𝓜 𝓡 code.env))
     (cited 𝓤 H (Begin 𝓤 H (𝓖 .A) (𝓜 .mem) (𝓡 .run)) 𝓜 𝓡 code.env #index·begin begin-def.routine code.calls-index·begin (begin-thm.met 𝓤 H 𝓜 𝓖 𝓡))
     (cited 𝓤 H (Numbers 𝓤 H (𝓖 .A) (𝓜 .mem) (𝓡 .run)) 𝓜 𝓡 code.env #index·numbers-for numbers-def.routine code.calls-index·numbers-for (numbers-thm.met 𝓤 H 𝓜 𝓖 𝓡))
-    (cited 𝓤 H (FillBy 𝓤 H (𝓖 .A) (𝓜 .mem) (𝓡 .run)) 𝓜 𝓡 code.env #index·fill-by by-def.routine code.calls-index·fill-by (by-thm.met 𝓤 H 𝓜 𝓖 𝓡)))
+    (cited 𝓤 H (First 𝓤 H (𝓖 .A) (𝓜 .mem) (𝓡 .run)) 𝓜 𝓡 code.env #index·store-first first-def.routine code.calls-index·store-first (first-thm.met 𝓤 H 𝓜 𝓖 𝓡)))

@@ -1,29 +1,21 @@
--- A name that we hold no flow of is 1; else the flow's table decodes to its published layout. Assumes nothing.
+-- The words' own refusal is passed on; else the flow's table decodes to its published layout. Assumes nothing.
 use mathlib.Core.Path.{sym, ap, _∙_}
-use Prim.Native.Nat.{ℕ}
 use denote.Ref.{now}
-use Rattle.flow.specs.Publication.{layoutFor}
 use Rattle.flow.specs.Flows.{flowAt}
-use Rattle.place.specs.declared.Refusal.{Refusal}
-use Rattle.judge.specs.File.{paper}
-use Rattle.judge.specs.declared.Judged.the-variants.{Refused}
+use Rattle.flow.specs.Editions.{asked, told}
 use Rattle.judge.proofs.Flows.{no-flow, by-flow}
 use borrow.Author.Needs.{needs}
 use Rattle.judge.proofs.judge.Statement.{statement}
 use Rattle.judge.proofs.judge.Tie as tie
 
-flow-number-requires : tie.Need-flow-number-requires
-flow-number-requires c κs = search needs
+find-requires : tie.Need-find-requires
+find-requires c κs = search needs
 
-whole-requires : tie.Need-whole-requires
-whole-requires c κs = search needs
+enum-known-refusal : tie.Need-enum-known-refusal
+enum-known-refusal c = search needs
 
-returns : tie.Need-returns
-returns c =
-    let a = c .before .before .before .before .before .args in
-    let n = c .before .before .flow-number in
-    ap (λ (r : Refusal). paper (Refused r)) (c .whole .ensures)
-    ∙ sym (no-flow (now (a .flow)) (now (a .f)) (sym (n .ensures .0) ∙ c .before .if1 .taken))
+enum-known-n : tie.Need-enum-known-n
+enum-known-n c = search needs
 
 table-of-requires : tie.Need-table-of-requires
 table-of-requires c κs = search needs
@@ -37,29 +29,29 @@ slice-aggregate-judge-by-2 c = search needs
 judge-by-requires : tie.Need-judge-by-requires
 judge-by-requires c κs = search needs
 
-with-place-requires : tie.Need-with-place-requires
-with-place-requires c κs = search needs
+returns : tie.Need-returns
+returns c =
+    let a = c .before .before .before .before .before .before .args in
+    let r = c .before .refusal .given in
+    no-flow (asked (now (a .flow))) (now (a .f)) (r .0 .0) (ap told (sym (r .1)) ∙ c .before .before .before .find .ensures)
 
 returns-2 : tie.Need-returns-2
 returns-2 c =
-    let a = c .before .before .before .before .before .before .before .before .before .before .before .args in
-    let n = c .before .before .before .before .before .before .before .before .flow-number in
-    let held = c .before .before .before .before .before .before .before .if1 .left in
-    let table = c .before .before .before .before .before .before .table-of in
-    by-flow (now (a .flow)) (now (a .f)) _ (c .before .judge-by .result) (c .with-place .result) (λ e. held (n .ensures .0 ∙ e))
-    (table .ensures ∙ ap (λ (x : ℕ). layoutFor (flowAt x)) (n .ensures .0))
-    (c .before .judge-by .ensures) (c .with-place .ensures)
+    let a = c .before .before .before .before .before .before .before .before .before .before .before .before .args in
+    let n = c .before .before .before .before .before .before .before .n .given in
+    by-flow (asked (now (a .flow))) (now (a .f)) (flowAt (n .0 .0)) (ap told (sym (n .1)) ∙ c .before .before .before .before .before .before .before .before .before .find .ensures) _
+    (c .before .before .before .before .before .table-of .ensures) (c .judge-by .result) (c .judge-by .ensures)
 
 pub judge-spec : {M : Type 1} → statement M
 judge-spec =
     tie.close
     (tie.spec
-    flow-number-requires
-    whole-requires
-    returns
+    find-requires
+    enum-known-refusal
+    enum-known-n
     table-of-requires
     slice-aggregate-judge-by
     slice-aggregate-judge-by-2
     judge-by-requires
-    with-place-requires
+    returns
     returns-2)

@@ -3,6 +3,7 @@ use borrow.Author.Needs.{needs}
 use mathlib.Core.Path.{ap, _∙_}
 use lib.ListN.{length}
 use denote.Ref.{now}
+use Rattle.flow.specs.Editions.{asked}
 use Rattle.csv.specs.Export.{exportOf, exported}
 use Rattle.screen.specs.Numbers.{transferCells}
 use Rattle.screen.proofs.Transfers.{same-output}
@@ -23,7 +24,7 @@ returns c =
     let a = c .before .before .before .before .before .before .before .before .args in
     let w = c .before .before .before .export in
     let old = now (a .out) in
-    let right = exported (now (a .flow)) (now (a .file)) (length old) in
+    let right = exported (asked (now (a .flow))) (now (a .file)) (length old) in
     record {
       says = c .transfer-cells .ensures ∙ ap transferCells (w .ensures .says);
       leaves = w .ensures .leaves ∙ same-output (w .result) right (w .ensures .says) (exportOf (now (a .file))) old;

@@ -3,6 +3,7 @@ use borrow.Author.Needs.{needs}
 use mathlib.Core.Path.{ap, _∙_}
 use lib.ListN.{length}
 use denote.Ref.{now}
+use Rattle.flow.specs.Editions.{asked}
 use Rattle.sheet.specs.Sheets.{sheetOf}
 use Rattle.sheet.specs.Read.{readTo}
 use Rattle.screen.specs.Numbers.{transferCells}
@@ -24,7 +25,7 @@ returns c =
     let a = c .before .before .before .before .before .before .before .before .args in
     let w = c .before .before .before .read in
     let old = now (a .out) in
-    let right = readTo (now (a .flow)) (now (a .file)) (length old) in
+    let right = readTo (asked (now (a .flow))) (now (a .file)) (length old) in
     record {
       says = c .transfer-cells .ensures ∙ ap transferCells (w .ensures .says);
       leaves = w .ensures .leaves ∙ same-output (w .result) right (w .ensures .says) (sheetOf (now (a .file))) old;

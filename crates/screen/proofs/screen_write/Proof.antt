@@ -3,6 +3,7 @@ use borrow.Author.Needs.{needs}
 use mathlib.Core.Path.{ap, _∙_}
 use lib.ListN.{length}
 use denote.Ref.{now}
+use Rattle.flow.specs.Editions.{asked}
 use Rattle.sheet.specs.Sheets.{made}
 use Rattle.sheet.specs.Write.{written}
 use Rattle.screen.specs.Numbers.{transferCells}
@@ -24,7 +25,7 @@ returns c =
     let a = c .before .before .before .before .before .before .before .before .args in
     let w = c .before .before .before .write in
     let old = now (a .out) in
-    let right = written (now (a .flow)) (now (a .sheet)) (length old) in
+    let right = written (asked (now (a .flow))) (now (a .sheet)) (length old) in
     record {
       says = c .transfer-cells .ensures ∙ ap transferCells (w .ensures .says);
       leaves = w .ensures .leaves ∙ same-output (w .result) right (w .ensures .says) (made (now (a .sheet))) old;

@@ -1,6 +1,6 @@
 -- `step_cells` is right: each case of the answer is turned to its four numbers.
 use Prim.Native.Nat.{ℕ}
-use mathlib.Core.Path.{sym, ap}
+use mathlib.Core.Path.{sym, ap, _∙_}
 use mathlib.Core.List.{List}
 use Rattle.flow.specs.Step.{paper}
 use Rattle.flow.specs.declared.StepAnswer.{StepAnswer}
@@ -15,8 +15,8 @@ says a = stepCells (paper a)
 enum-known-a : tie.Need-enum-known-a
 enum-known-a c = search needs
 
-cast-t7 : tie.Need-cast-t7
-cast-t7 c = search needs
+refusal-cells-requires : tie.Need-refusal-cells-requires
+refusal-cells-requires c κs = search needs
 
 enum-known-a-2 : tie.Need-enum-known-a-2
 enum-known-a-2 c = search needs
@@ -28,7 +28,7 @@ flag-requires : tie.Need-flag-requires
 flag-requires c κs = search needs
 
 returns : tie.Need-returns
-returns c = sym (ap says (c .before .a .given .1))
+returns c = c .refusal-cells .ensures ∙ sym (ap says (c .before .before .a .given .1))
 
 returns-2 : tie.Need-returns-2
 returns-2 c = sym (ap says (c .before .a2 .given .1))
@@ -41,7 +41,7 @@ step-cells-spec =
     tie.close
     (tie.spec
     enum-known-a
-    cast-t7
+    refusal-cells-requires
     enum-known-a-2
     enum-known-a-3
     flag-requires

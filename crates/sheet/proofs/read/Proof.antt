@@ -4,6 +4,7 @@ use mathlib.Core.Path.{sym}
 use native.Mathlib.Omega.{arith}
 use lib.Seq.{length-take-le}
 use denote.Ref.{now}
+use Rattle.flow.specs.Editions.{asked}
 use Rattle.sheet.proofs.Handing.{read-refused, read-no-room, read-done}
 use Rattle.sheet.proofs.read.Statement.{statement}
 use Rattle.sheet.proofs.read.Tie as tie
@@ -28,7 +29,7 @@ returns c =
     let a = c .before .before .before .before .before .before .before .before .before .before .args in
     let g = c .before .before .before .before .records .given in
     let s = c .before .before .last-start in
-    read-no-room (now (a .flow)) (now (a .file)) (now (a .out)) (g .0 .0) (s .result) (rw (g .1) at (c .before .before .before .before .before .before .judge .ensures)) (s .ensures .0) (s .ensures .1) (c .whole .ensures) (c .before .if1 .taken)
+    read-no-room (asked (now (a .flow))) (now (a .file)) (now (a .out)) (g .0 .0) (s .result) (rw (g .1) at (c .before .before .before .before .before .before .judge .ensures)) (s .ensures .0) (s .ensures .1) (c .whole .ensures) (c .before .if1 .taken)
 
 slice-aggregate-put-turned : tie.Need-slice-aggregate-put-turned
 slice-aggregate-put-turned c =
@@ -44,7 +45,7 @@ returns-2 : tie.Need-returns-2
 returns-2 c =
     let a = c .before .before .before .before .before .before .before .args in
     let g = c .before .refusal .given in
-    read-refused (now (a .flow)) (now (a .file)) (now (a .out)) _ (rw (g .1) at (c .before .before .before .judge .ensures))
+    read-refused (asked (now (a .flow))) (now (a .file)) (now (a .out)) _ (rw (g .1) at (c .before .before .before .judge .ensures))
 
 same-length : tie.Need-same-length
 same-length c = search needs
@@ -54,7 +55,7 @@ returns-3 c =
     let a = c .before .before .before .before .before .before .before .before .before .before .before .before .before .before .args in
     let g = c .before .before .before .before .before .before .before .before .records .given in
     let s = c .before .before .before .before .before .before .last-start in
-    read-done (now (a .flow)) (now (a .file)) (now (a .out)) (g .0 .0) (s .result) (rw (g .1) at (c .before .before .before .before .before .before .before .before .before .before .judge .ensures)) (s .ensures .0) (s .ensures .1)
+    read-done (asked (now (a .flow))) (now (a .file)) (now (a .out)) (g .0 .0) (s .result) (rw (g .1) at (c .before .before .before .before .before .before .before .before .before .before .judge .ensures)) (s .ensures .0) (s .ensures .1)
     (c .before .before .put-turned .last .0) (c .before .before .before .before .before .if1 .left) (c .before .before .put-turned .ensures)
 
 pub read-spec : {M : Type 1} → statement M

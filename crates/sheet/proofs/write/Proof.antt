@@ -1,87 +1,67 @@
--- Why write is right: it writes only where judge_sheet takes the sheet and there is room: the turned sheet, and the footer behind it.
+-- Why write is right: the words' own refusal is passed on; else the flow's table decodes to its published layout, whose footer is proper.
 use borrow.Author.Needs.{needs}
-use Prim.Native.Nat.{ℕ, _+_}
-use mathlib.Core.Path.{_∙_, ap, sym}
-use mathlib.Core.List.{_++_}
-use native.Mathlib.Omega.{arith}
-use lib.ListN.{length, drop}
+use mathlib.Core.Path.{sym, ap, _∙_, subst}
 use denote.Ref.{now}
-use Rattle.sheet.specs.Sheets.{made}
-use Rattle.sheet.proofs.Handing.{wrote-refused, wrote-no-room, wrote-done, made-size, made-put}
+use Rattle.layout.specs.Layout.{Layout}
+use Rattle.flow.specs.Flows.{flowAt}
+use Rattle.flow.specs.Editions.{asked, told}
+use Rattle.flow.specs.Proper.{ProperFooter}
+use Rattle.flow.proofs.Proper.{held-proper}
+use Rattle.sheet.proofs.Handing.{wrote-no-flow, wrote-for}
 use Rattle.sheet.proofs.write.Statement.{statement}
 use Rattle.sheet.proofs.write.Tie as tie
 
-judge-sheet-requires : tie.Need-judge-sheet-requires
-judge-sheet-requires c κs = search needs
+find-requires : tie.Need-find-requires
+find-requires c κs = search needs
 
-enum-known-number : tie.Need-enum-known-number
-enum-known-number c = search needs
+enum-known-refusal : tie.Need-enum-known-refusal
+enum-known-refusal c = search needs
 
-at-requires : tie.Need-at-requires
-at-requires c κs = search needs
+enum-known-n : tie.Need-enum-known-n
+enum-known-n c = search needs
 
-enum-known-records : tie.Need-enum-known-records
-enum-known-records c = search needs
+table-of-requires : tie.Need-table-of-requires
+table-of-requires c κs = search needs
 
-footer-length-requires : tie.Need-footer-length-requires
-footer-length-requires c κs = search needs
+slice-aggregate-write-by : tie.Need-slice-aggregate-write-by
+slice-aggregate-write-by c = search needs
 
-add-bytes : tie.Need-add-bytes
-add-bytes c = search needs
+slice-aggregate-write-by-2 : tie.Need-slice-aggregate-write-by-2
+slice-aggregate-write-by-2 c = search needs
 
-whole-requires : tie.Need-whole-requires
-whole-requires c κs = search needs
+write-by-requires : tie.Need-write-by-requires
+write-by-requires c κs =
+    let n = c .before .before .before .before .before .before .before .n .given .0 .0 in
+    subst ProperFooter (sym (c .before .before .before .before .before .table-of .ensures)) (held-proper n .footer)
 
 returns : tie.Need-returns
 returns c =
-    let a = c .before .before .before .before .before .before .before .before .before .before .args in
-    let g = c .before .before .before .before .records .given in
-    let t = rw (g .1) at (c .before .before .before .before .before .before .judge-sheet .ensures) in
-    wrote-no-room (now (a .flow)) (now (a .sheet)) (now (a .out)) (g .0 .0) (g .0 .1 .0) _ t
-    (ap (λ (k : ℕ). length (now (a .sheet)) + k) (c .before .before .footer-length .ensures .0) ∙ made-size (now (a .sheet)) (now (a .out)) (g .0 .0) (g .0 .1 .0) (t .totals))
-    (c .whole .ensures) (c .before .if1 .taken)
-
-put-turned-requires : tie.Need-put-turned-requires
-put-turned-requires c κs = search needs
-
-put-footer-requires : tie.Need-put-footer-requires
-put-footer-requires c κs = search needs
-
-returns-2 : tie.Need-returns-2
-returns-2 c =
-    let a = c .before .before .before .before .before .before .before .before .args in
-    let g = c .before .before .number .given in
-    wrote-refused (now (a .flow)) (now (a .sheet)) (now (a .out)) (c .at .ensures)
-    ((rw (g .1) at (c .before .before .before .before .judge-sheet .ensures)) (length (now (a .out))))
+    let a = c .before .before .before .before .before .before .before .args in
+    let r = c .before .refusal .given in
+    wrote-no-flow (asked (now (a .flow))) (now (a .sheet)) (now (a .out)) (r .0 .0) (ap told (sym (r .1)) ∙ c .before .before .before .find .ensures)
 
 same-length : tie.Need-same-length
 same-length c = search needs
 
-returns-3 : tie.Need-returns-3
-returns-3 c =
-    let a = c .before .before .before .before .before .before .before .before .before .before .before .before .before .before .before .before .before .args in
-    let g = c .before .before .before .before .before .before .before .before .before .before .before .records .given in
-    let t = rw (g .1) at (c .before .before .before .before .before .before .before .before .before .before .before .before .before .judge-sheet .ensures) in
-    let size =
-    ap (λ (k : ℕ). length (now (a .sheet)) + k) (c .before .before .before .before .before .before .before .before .before .footer-length .ensures .0) ∙ made-size (now (a .sheet)) (now (a .out)) (g .0 .0) (g .0 .1 .0) (t .totals) in
-    wrote-done (now (a .flow)) (now (a .sheet)) (now (a .out)) (g .0 .0) (g .0 .1 .0) _ t size (c .before .before .put-footer .last .0) (c .before .before .before .before .before .before .before .before .if1 .left)
-    (made-put (now (a .sheet)) (now (a .out)) (g .0 .0) (g .0 .1 .0) (t .totals) (c .before .before .before .before .before .before .put-turned .last .0) (c .before .before .put-footer .last .0) (omega arith)
-    (c .before .before .before .before .before .before .put-turned .ensures) (c .before .before .put-footer .ensures) ∙ ap (λ (k : ℕ). made (now (a .sheet)) ++ drop k (now (a .out))) (sym size))
+returns-2 : tie.Need-returns-2
+returns-2 c =
+    let a = c .before .before .before .before .before .before .before .before .before .before .before .before .before .before .before .before .args in
+    let n = c .before .before .before .before .before .before .before .before .before .before .n .given in
+    let s = c .before .before .write-by in
+    wrote-for (asked (now (a .flow))) (now (a .sheet)) (now (a .out)) (flowAt (n .0 .0)) (ap told (sym (n .1)) ∙ c .before .before .before .before .before .before .before .before .before .before .before .before .find .ensures) _
+    (c .before .before .before .before .before .before .before .before .table-of .ensures) (s .result) (s .last .1 .1 .1 .0) (s .ensures)
 
 pub write-spec : {M : Type 1} → statement M
 write-spec =
     tie.close
     (tie.spec
-    judge-sheet-requires
-    enum-known-number
-    at-requires
-    enum-known-records
-    footer-length-requires
-    add-bytes
-    whole-requires
+    find-requires
+    enum-known-refusal
+    enum-known-n
+    table-of-requires
+    slice-aggregate-write-by
+    slice-aggregate-write-by-2
+    write-by-requires
     returns
-    put-turned-requires
-    put-footer-requires
-    returns-2
     same-length
-    returns-3)
+    returns-2)

@@ -1,25 +1,21 @@
--- `value_of` is right: the reader's refusal is passed on, and of an accepted file the value goes by the flow's table.
-use borrow.Author.Needs.{needs}
-use mathlib.Core.Path.{ap, _∙_}
-use Prim.Native.Nat.{ℕ}
+-- `value_of` is right: the words' own refusal is passed on, else the value goes by the flow's table.
+use mathlib.Core.Path.{sym, ap, _∙_}
 use denote.Ref.{now}
-use Rattle.flow.specs.Publication.{layoutFor}
 use Rattle.flow.specs.Flows.{flowAt}
-use Rattle.value.proofs.OneValue.{right, reader-refused, reader-accepted}
+use Rattle.flow.specs.Editions.{asked, told}
+use Rattle.value.proofs.OneValue.{right, no-flow, by-flow}
+use borrow.Author.Needs.{needs}
 use Rattle.value.proofs.value_of.Statement.{statement}
 use Rattle.value.proofs.value_of.Tie as tie
 
-judge-requires : tie.Need-judge-requires
-judge-requires c κs = search needs
+find-requires : tie.Need-find-requires
+find-requires c κs = search needs
 
 enum-known-refusal : tie.Need-enum-known-refusal
 enum-known-refusal c = search needs
 
-enum-told : tie.Need-enum-told
-enum-told c = search needs
-
-flow-number-requires : tie.Need-flow-number-requires
-flow-number-requires c κs = search needs
+enum-known-number : tie.Need-enum-known-number
+enum-known-number c = search needs
 
 table-of-requires : tie.Need-table-of-requires
 table-of-requires c κs = search needs
@@ -36,29 +32,27 @@ value-by-requires c κs = search needs
 returns : tie.Need-returns
 returns c =
     let a = c .before .before .before .before .before .before .args in
-    let j = c .before .before .before .judge in
-    right (now (a .flow)) (now (a .f)) (a .n) (a .k)
-    (reader-refused (now (a .flow)) (now (a .f)) (a .n) (a .k) (j .result) (j .ensures) (c .before .refusal .given .1))
+    let r = c .before .refusal .given in
+    let it = asked (now (a .flow)) in
+    right it (now (a .f)) (a .n) (a .k)
+    (no-flow it (now (a .f)) (a .n) (a .k) (r .0 .0) (ap told (sym (r .1)) ∙ c .before .before .before .find .ensures))
 
 returns-2 : tie.Need-returns-2
 returns-2 c =
     let a = c .before .before .before .before .before .before .before .before .before .before .before .before .args in
-    let j = c .before .before .before .before .before .before .before .before .before .judge in
-    let number = c .before .before .before .before .before .before .flow-number in
-    let table = c .before .before .before .before .before .table-of in
-    let accepted = c .before .before .before .before .before .before .before .enum-told .given .1 in
-    right (now (a .flow)) (now (a .f)) (a .n) (a .k)
-    (reader-accepted (now (a .flow)) (now (a .f)) (a .n) (a .k) (j .result) (j .ensures) accepted _
-    (table .ensures ∙ ap (λ (x : ℕ). layoutFor (flowAt x)) (number .ensures .0)) (c .value-by .ensures))
+    let n = c .before .before .before .before .before .before .before .number .given in
+    let it = asked (now (a .flow)) in
+    right it (now (a .f)) (a .n) (a .k)
+    (by-flow it (now (a .f)) (a .n) (a .k) (flowAt (n .0 .0)) (ap told (sym (n .1)) ∙ c .before .before .before .before .before .before .before .before .before .find .ensures) _
+    (c .before .before .before .before .before .table-of .ensures) (c .value-by .ensures))
 
 pub value-of-spec : {M : Type 1} → statement M
 value-of-spec =
     tie.close
     (tie.spec
-    judge-requires
+    find-requires
     enum-known-refusal
-    enum-told
-    flow-number-requires
+    enum-known-number
     table-of-requires
     slice-aggregate-value-by
     slice-aggregate-value-by-2

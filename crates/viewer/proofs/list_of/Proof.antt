@@ -45,6 +45,7 @@ use denote.Triple.Entry.{onEntry}
 use denote.Triple.Spec.{Meets, tripleOf}
 use denote.Triple.Table.{entered, cited}
 use denote.Triple.Walked.{says, Stays, stay-none-slice, walkOf, Walks, ends-at, walked, goes-none-slice, walk-meets}
+use Rattle.flow.specs.Editions.{asked}
 use Rattle.index.specs.declared.Entry.{Entry}
 use Rattle.index.specs.declared.Indexed.{Indexed}
 use Rattle.index.specs.Entries.{listed, FilledRight}
@@ -135,7 +136,7 @@ module _ {M : Type 1} (𝓤 : URA M) (H : Heap 𝓤) (A : Atoms 𝓤) (W : Given
 
   -- the list that comes back
   abbrev zs : List Entry
-  zs = listed ns fs ys
+  zs = listed (asked ns) fs ys
 
   abbrev Post : Val → SProp 𝓤
   Post = walkOf 𝓤 H A f.ended stayed (f.clauses 𝓤 H A at-mem run) .post (((κ₁, (κ₂, tt)), (q₁, (q₂, tt)), tt, a, at), tt)
@@ -192,8 +193,8 @@ module _ {M : Type 1} (𝓤 : URA M) (H : Heap 𝓤) (A : Atoms 𝓤) (W : Given
         -- [what is asked; flow's; f's; the lender's part; _7; …; _6; …; _5; …; …; _3; …; _2; …; _1; …; _0; …]
         calls-at ! fm (Fill 𝓤 H A at-mem run) known (to-fill l₄ α γ) (and-then ! (load ! (from ! (stop !)) (look ! 15 refl)) (and-then ! (load ! (from ! (stop !)) (look ! 13 refl)) (and-then ! (load ! (from ! (stop !)) (look ! 4 refl)) (no-more !)))) (λ u.
         use1 W (later (some (λ (r : Indexed). (Toks l₄ α γ ⊛ ‵ (I.the-row .own r (u ∷ [])))
-        ⊛ some (λ (ws : Lasts fill.ended (κ₁, (κ₂, (α ∷ [], tt))) (x₁, (x₂, (x l₄ α γ, tt)))). ‵ (lasts fill.ended (κ₁, (κ₂, (α ∷ [], tt))) (x₁, (x₂, (x l₄ α γ, tt))) ws) ⊛ raw (fact 𝓤 (FilledRight ns fs ys (ws .1 .1 .0) r)))))) (id⊢ 𝓤 _) $ await ! tt $ pick ! (λ r.
-        split ! $ move ! (1 ∷ []) $ pick ! (λ ws. split ! $ move ! (1 ∷ []) $ heard ! (FilledRight ns fs ys (ws .1 .1 .0) r) (λ right. fsplit ! $ drop ! $ fsplit ! $ drop ! $ fsplit ! $ fsplit ! $ move ! (1 ∷ []) $ feqL ! (λ _.
+        ⊛ some (λ (ws : Lasts fill.ended (κ₁, (κ₂, (α ∷ [], tt))) (x₁, (x₂, (x l₄ α γ, tt)))). ‵ (lasts fill.ended (κ₁, (κ₂, (α ∷ [], tt))) (x₁, (x₂, (x l₄ α γ, tt))) ws) ⊛ raw (fact 𝓤 (FilledRight (asked ns) fs ys (ws .1 .1 .0) r)))))) (id⊢ 𝓤 _) $ await ! tt $ pick ! (λ r.
+        split ! $ move ! (1 ∷ []) $ pick ! (λ ws. split ! $ move ! (1 ∷ []) $ heard ! (FilledRight (asked ns) fs ys (ws .1 .1 .0) r) (λ right. fsplit ! $ drop ! $ fsplit ! $ drop ! $ fsplit ! $ fsplit ! $ move ! (1 ∷ []) $ feqL ! (λ _.
         rewrite ! 0 (λ (es : List Entry). ‵ (finally R γ es)) (right .holds) refl $ move ! (1 ∷ []) $ drop ! $ move ! (1 ∷ []) $ split ! $ move ! (1 ∷ []) $ facts ! I.the-row (Is I.the-row) (shows 𝓤 H A I.the-row) r (u ∷ []) (λ is.
         land ! (from ! (stop !)) (init ! 9 refl (EL.lawful I.the-type I′.the-laws 𝓤 H A W tt .typed r _ is .0)) $
         -- [the tokens; the last list; flow's; f's; the lender's part; _7; …; _6; …; _5; …; …; _3; …; _2; …; _1; …; _0; …]: the lifetime ends, and the array comes back

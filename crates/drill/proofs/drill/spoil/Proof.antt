@@ -4,6 +4,7 @@ use lib.ListN.{getD, set}
 use mathlib.Core.List.{List}
 use mathlib.Core.Path.{_≡_, _∙_, ap}
 use denote.Ref.{now}
+use Rattle.flow.specs.Editions.{asked}
 use Rattle.drill.specs.Drill.{passes}
 use Prim.Native.Nat.{ℕ}
 use borrow.Author.Needs.{needs}
@@ -38,7 +39,7 @@ put-back l i a = set-set l i a (getD l i 0) ∙ set-getD l i 0
 returns : tie.Need-returns
 returns c =
     let a = c .before .before .before .before .before .before .before .args in
-    let judged = c .before .accepts .ensures ∙ ap (λ (b : ℕ). passes (now (a .flow)) (set (now (a .file)) (a .at) b)) (c .before .before .before .other .ensures) in
+    let judged = c .before .accepts .ensures ∙ ap (λ (b : ℕ). passes (asked (now (a .flow))) (set (now (a .file)) (a .at) b)) (c .before .before .before .other .ensures) in
     (put-back _ _ _, rw judged at (c .count .ensures))
 
 pub spoil-spec : {M : Type 1} → statement M

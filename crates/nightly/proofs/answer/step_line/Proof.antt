@@ -1,6 +1,7 @@
 -- `step_line` is safe: the kinds that may follow are few, so that their names stand in the lent bytes.
 use denote.Ref.{now}
-use Rattle.flow.specs.Flows.{flowNumber}
+use Rattle.flow.specs.Editions.{asked}
+use Rattle.flow.proofs.Asking.{asked-proper}
 use Rattle.printing.proofs.Follow.{follow-few}
 use borrow.Author.Needs.{needs}
 use Rattle.nightly.proofs.answer.step_line.Statement.{statement}
@@ -9,14 +10,8 @@ use Rattle.nightly.proofs.answer.step_line.Tie as tie
 step-requires : tie.Need-step-requires
 step-requires c κs = search needs
 
-enum-known-number : tie.Need-enum-known-number
-enum-known-number c = search needs
-
-cast-whole : tie.Need-cast-whole
-cast-whole c = search needs
-
-whole-requires : tie.Need-whole-requires
-whole-requires c κs = search needs
+enum-known-refusal : tie.Need-enum-known-refusal
+enum-known-refusal c = search needs
 
 print-refusal-requires : tie.Need-print-refusal-requires
 print-refusal-requires c κs = search needs
@@ -38,8 +33,9 @@ enum-known-count c = search needs
 
 print-follow-requires : tie.Need-print-follow-requires
 print-follow-requires c κs =
+    let words = now (c .before .before .before .before .before .before .before .before .args .flow) in
     let told = rw (c .before .before .count .given .1) at (c .before .before .before .before .step .ensures) in
-    follow-few (flowNumber (now (c .before .before .before .before .before .before .before .before .args .flow))) (told .1)
+    follow-few (asked words) (asked-proper words) _ _ _ _ told
 
 returns : tie.Need-returns
 returns c = search needs
@@ -55,9 +51,7 @@ step-line-spec =
     tie.close
     (tie.spec
     step-requires
-    enum-known-number
-    cast-whole
-    whole-requires
+    enum-known-refusal
     print-refusal-requires
     enum-known-place
     slice-aggregate-print-numbers

@@ -1,4 +1,5 @@
 -- A refusal of the writer has its place in the sheet, one of the reader and of export in the file.
+use denote.Ref.{now}
 use Rattle.rig.proofs.Points.{wrote-placed, read-placed, exported-placed}
 use borrow.Author.Needs.{needs}
 use Rattle.rig.proofs.making.make_and_keep.Statement.{statement}
@@ -11,7 +12,9 @@ write-requires : tie.Need-write-requires
 write-requires c κs = search needs
 
 keep-requires : tie.Need-keep-requires
-keep-requires c κs = wrote-placed (c .before .before .before .write .ensures)
+keep-requires c κs =
+    let a = c .before .before .before .before .before .before .before .before .before .before .args in
+    wrote-placed (now (a .flow)) (now (a .given)) (c .before .before .before .write .ensures)
 
 enum-told-2 : tie.Need-enum-told-2
 enum-told-2 c = search needs
@@ -20,7 +23,9 @@ read-requires : tie.Need-read-requires
 read-requires c κs = search needs
 
 keep-requires-2 : tie.Need-keep-requires-2
-keep-requires-2 c κs = read-placed (c .before .before .before .read .ensures)
+keep-requires-2 c κs =
+    let a = c .before .before .before .before .before .before .before .before .before .before .args in
+    read-placed (now (a .flow)) (now (a .given)) (c .before .before .before .read .ensures)
 
 enum-told-3 : tie.Need-enum-told-3
 enum-told-3 c = search needs
@@ -29,7 +34,9 @@ export-requires : tie.Need-export-requires
 export-requires c κs = search needs
 
 keep-requires-3 : tie.Need-keep-requires-3
-keep-requires-3 c κs = exported-placed (c .before .before .before .export .ensures)
+keep-requires-3 c κs =
+    let a = c .before .before .before .before .before .before .before .before .before .before .args in
+    exported-placed (now (a .flow)) (now (a .given)) (c .before .before .before .export .ensures)
 
 same-length : tie.Need-same-length
 same-length c = search needs

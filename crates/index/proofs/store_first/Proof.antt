@@ -1,4 +1,4 @@
--- `index::fill_by` meets its contract: a walk of its MIR, by hand, with one loop and three callees of which it knows their contracts alone. In each turn the list is lent again to `store`, for a lifetime that the walk makes, and comes back.
+-- `index::store_first` meets its contract: a walk of its MIR, by hand, with one loop and three callees of which it knows their contracts alone. In each turn the list is lent again to `store`, for a lifetime that the walk makes, and comes back.
 use mathlib.Core.Path.{_≡_, refl, sym, _∙_, ap, subst}
 use Prim.Native.Nat.{ℕ, suc, _+_, _-_, _<_, _≤_, _^_}
 use native.Mathlib.Omega.{arith}
@@ -68,11 +68,11 @@ use Rattle.index.proofs.store as store′
 use Rattle.index.proofs.store.Symbol as store-def
 use Rattle.index.proofs.store.Symbol.{name as #index·store}
 use Rattle.index.proofs.store.Met as store-thm
-use Rattle.index.proofs.fill_by.Key.{name as #index·fill-by}
-use Rattle.index.proofs.fill_by as f
-use Rattle.index.proofs.fill_by.Statement as stated
-use Rattle.index.proofs.fill_by.Code as code
-use Rattle.index.proofs.fill_by.Code.Mir as M′
+use Rattle.index.proofs.store_first.Key.{name as #index·store-first}
+use Rattle.index.proofs.store_first as f
+use Rattle.index.proofs.store_first.Statement as stated
+use Rattle.index.proofs.store_first.Code as code
+use Rattle.index.proofs.store_first.Code.Mir as M′
 
 abbrev R : RattleType
 R = T.the-row
@@ -374,24 +374,24 @@ module _ {M : Type 1} (𝓤 : URA M) (H : Heap 𝓤) (A : Atoms 𝓤) (W : Given
         starts l₀ l₁ l₂ l₃ l₄ l₅ l₆ l₇ l₈ l₉ l₁₀ l₁₁))))))))))))
 
 module _ {M : Type 1} (𝓤 : URA M) (H : Heap 𝓤) (A : Atoms 𝓤) (W : Given 𝓤 H A) (at-mem : Memory → SProp 𝓤) (run : Routine → Fun 𝓤) (𝓣 : Tables 𝓤 H) (known-start : Triple 𝓤 (𝓣 .C #index·start) (Start 𝓤 H A at-mem run)) (known-advance : Triple 𝓤 (𝓣 .C #index·advance) (Advance 𝓤 H A at-mem run)) (known-store : Triple 𝓤 (𝓣 .C #index·store) (Store 𝓤 H A at-mem run)) where
-  fill-by-walks : Walks 𝓤 H A f.ended stayed (WpFn 𝓤 H (𝓣 .C) (𝓣 .Λ) code.function) (f.clauses 𝓤 H A at-mem run)
-  fill-by-walks = walked 𝓤 H A f.ended stayed (f.clauses 𝓤 H A at-mem run) (WpFn 𝓤 H (𝓣 .C) (𝓣 .Λ) code.function)
+  store-first-walks : Walks 𝓤 H A f.ended stayed (WpFn 𝓤 H (𝓣 .C) (𝓣 .Λ) code.function) (f.clauses 𝓤 H A at-mem run)
+  store-first-walks = walked 𝓤 H A f.ended stayed (f.clauses 𝓤 H A at-mem run) (WpFn 𝓤 H (𝓣 .C) (𝓣 .Λ) code.function)
       (λ κs. (slice-vals, (slice-vals, (slice-vals, (uint-vals w64, tt))))) (λ κs. (mut-slice-tells (named 0) (κs .0) R, (shr-slice-tells (named 1) (κs .1 .0) u32, (shr-slice-tells (named 2) (κs .1 .1 .0) u8, (uint-tells w64, tt)))))
       (λ κs qs bounds a g are. needs 𝓤 ((a .1 .1 .1 .0 ≤ length (now (a .0))) × (a .1 .1 .1 .0 ≤ length (entriesOf (kindsIn (now (a .1 .0))) (now (a .1 .1 .0))))) _ (λ asked.
       walk 𝓤 H A W at-mem run (κs .0) (κs .1 .0) (κs .1 .1 .0) (qs .0) (qs .1 .0) (qs .1 .1 .0) (a .0 .ptr .0) (a .0 .ptr .1) (a .0 .name) (a .0 .now) (a .1 .0 .ptr .0) (a .1 .0 .ptr .1) (a .1 .0 .name) (a .1 .0 .now)
       (a .1 .1 .0 .ptr .0) (a .1 .1 .0 .ptr .1) (a .1 .1 .0 .name) (a .1 .1 .0 .now) (a .1 .1 .1 .0) 𝓣 known-start known-advance known-store (are .0 .0 .1) (are .1 .0 .0 .1) (are .1 .1 .0 .0 .1) (are .1 .1 .1 .0 .1) (asked .0) (asked .1)))
 
-  fill-by-meets : Meets 𝓤 H A f.signature (WpFn 𝓤 H (𝓣 .C) (𝓣 .Λ) code.function) (f.spec 𝓤 H A at-mem run)
-  fill-by-meets =
+  store-first-meets : Meets 𝓤 H A f.signature (WpFn 𝓤 H (𝓣 .C) (𝓣 .Λ) code.function) (f.spec 𝓤 H A at-mem run)
+  store-first-meets =
       walk-meets 𝓤 H A f.ended stayed W (goes-slice 𝓤 H A W 3 0 tt (plain (λ _. R)), (goes-none-slice 𝓤 H A W 3 (1 ∷ []) tt (plain (λ _. u32)) yes, (goes-none-slice 𝓤 H A W 3 (2 ∷ []) tt (plain (λ _. u8)) yes, (goes-none 𝓤 H A W 3 (λ _. usize) yes (λ κs x f. refl), tt)))) (f.clauses 𝓤 H A at-mem run)
-      (WpFn 𝓤 H (𝓣 .C) (𝓣 .Λ) code.function) (WpFn-mono 𝓤 H (W .laws) 𝓣 code.function) fill-by-walks
+      (WpFn 𝓤 H (𝓣 .C) (𝓣 .Λ) code.function) (WpFn-mono 𝓤 H (W .laws) 𝓣 code.function) store-first-walks
 
-pub fill-by-spec : {M : Type 1} → stated.statement M
+pub store-first-spec : {M : Type 1} → stated.statement M
 unfolding code.routine tablesOf
-fill-by-spec 𝓤 H 𝓜 𝓖 𝓡 =
+store-first-spec 𝓤 H 𝓜 𝓖 𝓡 =
     entered 𝓤 H (tripleOf 𝓤 H (𝓖 .A) f.signature (f.spec 𝓤 H (𝓖 .A) (𝓜 .mem) (𝓡 .run)))
-    (tables 𝓤 H 𝓜 𝓡 code.env .C) (tables 𝓤 H 𝓜 𝓡 code.env .Λ) #index·fill-by code.function (code.unfolded 𝓤 H 𝓜 𝓡)
-    (fill-by-meets 𝓤 H (𝓖 .A) (givenOf 𝓤 H 𝓜 𝓖) (𝓜 .mem) (𝓡 .run) (tablesOf 𝓤 H 𝓜 (tables 𝓤 H 𝓜 𝓡 code.env))
+    (tables 𝓤 H 𝓜 𝓡 code.env .C) (tables 𝓤 H 𝓜 𝓡 code.env .Λ) #index·store-first code.function (code.unfolded 𝓤 H 𝓜 𝓡)
+    (store-first-meets 𝓤 H (𝓖 .A) (givenOf 𝓤 H 𝓜 𝓖) (𝓜 .mem) (𝓡 .run) (tablesOf 𝓤 H 𝓜 (tables 𝓤 H 𝓜 𝓡 code.env))
     (cited 𝓤 H (Start 𝓤 H (𝓖 .A) (𝓜 .mem) (𝓡 .run)) 𝓜 𝓡 code.env #index·start start-def.routine code.calls-index·start (start-thm.met 𝓤 H 𝓜 𝓖 𝓡))
     (cited 𝓤 H (Advance 𝓤 H (𝓖 .A) (𝓜 .mem) (𝓡 .run)) 𝓜 𝓡 code.env #index·advance advance-def.routine code.calls-index·advance (advance-thm.met 𝓤 H 𝓜 𝓖 𝓡))
     (cited 𝓤 H (Store 𝓤 H (𝓖 .A) (𝓜 .mem) (𝓡 .run)) 𝓜 𝓡 code.env #index·store store-def.routine code.calls-index·store (store-thm.met 𝓤 H 𝓜 𝓖 𝓡)))
