@@ -24,13 +24,15 @@ pub data Asked : Type 0 where
   aFlow : Flow → Asked
   noFlow : Refusal → Asked
 
--- the words are a flow's name of eight characters, or these, a space and an edition
+-- a caller's words are a flow's name of eight characters, or these, a space and an edition; the name is the first eight
 abbrev pub nameIn : List ℕ → List ℕ
 nameIn words = take 8 words
 
+-- behind the name the words end, or a space stands
 abbrev pub endsOrSpace : List ℕ → Bool
 endsOrSpace words = eqb (length words) 8 || eqb (getD words 8 0) 0x20
 
+-- the edition is what stands behind the space, and the usual one where none is named
 abbrev pub editionIn : List ℕ → List ℕ
 editionIn words = cond (eqb (length words) 8) usual (drop 9 words)
 
