@@ -60,9 +60,10 @@ module _ (n : ℕ) where
   fl = flowAt n
 
   passes : (i : ℕ) → getD (tests fl) i true ≡ true
-  unfolding allTests itself agrees among find isText isDigit heads nests
+  unfolding allTests itself
   passes i =
-      is-true _ (all-at itself true (tests fl) (all-at allTests p0012 flowsAndEditions all-pass (tt {0}) (n - 1)) (tt {0}) i)
+      let first = and-left (allTests p0012) (all allTests (drop 1 flowsAndEditions)) all-pass in
+      is-true _ (all-at itself true (tests fl) (all-at allTests p0012 flowsAndEditions all-pass first (n - 1)) (tt {0}) i)
 
   rules-same : footerRules fl ≡ int 10 ∷ int 10 ∷ []
   rules-same =
