@@ -1,7 +1,6 @@
 -- The bench's tests in their order. Assumes nothing.
-use Prim.Native.Nat.{ℕ, zero, suc, _+_, _-_, _≤_, _<_}
+use Prim.Native.Nat.{ℕ, _+_, _-_, _≤_, _<_}
 use mathlib.Core.Path.{_≡_, refl, sym, ap, _∙_}
-use mathlib.Core.Bool.{true, false}
 use mathlib.Core.List.{List, [], _∷_}
 use native.Mathlib.Omega.{arith}
 use borrow.Author.Tests.{le-leb, lt-leb}
@@ -10,7 +9,6 @@ use lib.Seq.{take-all, length-take-le}
 use Rattle.record.specs.Records.{records, extent}
 use Rattle.record.specs.Found.{Stands}
 use Rattle.record.proofs.Runs.{records-first}
-use Rattle.place.specs.Places.{whole}
 use Rattle.place.specs.declared.Refusal.{Refusal}
 use Rattle.flow.specs.Publication.{Flow}
 use Rattle.flow.specs.Editions.{Asked, aFlow, noFlow, asked}

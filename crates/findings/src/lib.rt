@@ -4,12 +4,15 @@ use record::Cursor;
 use record::FEED;
 use record::Step;
 ghost use mathlib.Core.Path.{_≡_};
-ghost use Prim.Native.Nat.{ℕ};
+ghost use Prim.Native.Nat.{ℕ, _+_};
 ghost use mathlib.Core.List.{List};
+ghost use lib.ListN.{length};
 ghost use Rattle.record.specs.Records.{field};
+ghost use Rattle.layout.specs.Layout.{row};
 ghost use Rattle.layout.specs.Numbers.{layoutOf};
 ghost use Rattle.fault.specs.Record.{kindOf};
 ghost use Rattle.findings.specs.Dates.{missingIn};
+ghost use Rattle.findings.specs.Words.{refusedPart};
 ghost use Rattle.findings.specs.Lines.{footerLine, spanned, withOne, lastOfKind, recordsBefore};
 
 // The part of a date that the calendar does not have.
@@ -97,4 +100,22 @@ pub fn last_of_kind<'a>(t: &[u32], sep: u8, kind: usize, file: &'a [u8], n: usiz
         }
     }
     text::part(file, last.from, last.len)
+}
+
+// The part of a caller's words that is refused with a number: by 21 the edition, behind eight characters and the space, by 1 all of them.
+pub fn refused_part<'a>(words: &'a [u8], number: usize) -> &'a [u8]
+    ensures { λ s. ⌜ now s ≡ refusedPart (now (words .entry)) number ⌝ }
+{
+    if number == 21 {
+        return text::part(words, 9, words.len());
+    }
+    text::part(words, 0, words.len())
+}
+
+// How many fields a kind has, its name among them.
+pub fn field_count(t: &[u32], kind: usize) -> usize
+    ensures { λ n. ⌜ ((fixed : List ℕ) → n ≡ length (row (layoutOf (now (t .entry)) fixed) kind .rules) + 1) ⌝ }
+{
+    let rules = layout::rules_of(t, kind);
+    rules.count + 1
 }

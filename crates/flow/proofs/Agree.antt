@@ -1,19 +1,14 @@
 -- The rows of a flow's layout: their names, their number and the last of them. Assumes nothing.
 use Prim.Native.Nat.{ℕ, zero, suc, _-_, _≤_}
 use mathlib.Core.Path.{_≡_, refl, sym, ap, _∙_}
-use mathlib.Core.Bool.{Bool, true, false, _&&_}
+use mathlib.Core.Bool.{Bool, true, false}
 use mathlib.Core.List.{map-map}
 use native.Mathlib.Omega.{arith}
-use lib.Dec.{T, leb, leb→le, eqb}
-use lib.ListN.{length, drop, length-map}
+use lib.Dec.{eqb}
+use lib.ListN.{length, length-map}
 use borrow.Author.Tests.{le-leb, eq-eqb, ne-eqb, eqb-true, eqb-false}
-use Rattle.text.specs.Characters.{all}
-use Rattle.text.proofs.Places.{all-at}
-use Rattle.layout.specs.Layout.{KindRow, among, mayFollow, isFooter}
-use Rattle.grammar.specs.Table.{agrees}
-use Rattle.text.proofs.Tests.{and-left, and-right, is-true}
+use Rattle.layout.specs.Layout.{KindRow, isFooter}
 use Rattle.flow.specs.Publication.{Flow, PublishedKind, names, rowFor, layoutFor}
-use Rattle.flow.specs.Flows.{flows, flowAt, p0012}
 use Rattle.flow.specs.ByTable.{kindNames}
 
 -- the names of the layout's kinds are the published ones

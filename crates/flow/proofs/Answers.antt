@@ -1,10 +1,9 @@
 -- What the walk and the listed followers say is what the step must answer. Assumes nothing.
-use Prim.Native.Nat.{ℕ, suc, _-_}
+use Prim.Native.Nat.{ℕ, suc}
 use mathlib.Core.Path.{_≡_, refl, sym, ap, _∙_, subst}
-use mathlib.Core.Bool.{Bool, true}
+use mathlib.Core.Bool.{Bool}
 use mathlib.Core.List.{List}
 use native.Mathlib.Omega.{arith}
-use borrow.Author.Tests.{ne-eqb}
 use Rattle.layout.specs.Layout.{mayFollow, isFooter}
 use Rattle.grammar.specs.Right.{ThroughRight}
 use Rattle.grammar.specs.Table.{tableWalk}

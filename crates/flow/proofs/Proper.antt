@@ -1,7 +1,7 @@
 -- Each flow that we hold, in each edition, is proper: by one computed test over all of them. Assumes nothing.
-use Prim.Native.Nat.{ℕ, _-_, _≤_}
+use Prim.Native.Nat.{ℕ, _-_}
 use mathlib.Core.Path.{_≡_, refl, sym, ap, _∙_, subst}
-use mathlib.Core.Bool.{Bool, true, _&&_}
+use mathlib.Core.Bool.{Bool, true}
 use mathlib.Core.List.{List, [], _∷_, map}
 use lib.Dec.{T, eqb, leb}
 use lib.ListN.{length, getD, drop, List·getD-map}
@@ -10,14 +10,14 @@ use Rattle.text.specs.Characters.{all, isText, isDigit}
 use Rattle.text.specs.Order.{sameBytes}
 use Rattle.text.proofs.Places.{all-at}
 use Rattle.text.proofs.Lists.{same→≡}
-use Rattle.text.proofs.Tests.{and-left, and-right, is-true}
-use Rattle.layout.specs.Layout.{Rule, Layout, row, rowNames, find, among, mayFollow, kindNamed}
+use Rattle.text.proofs.Tests.{and-left, is-true}
+use Rattle.layout.specs.Layout.{Rule, row, rowNames, find, among, mayFollow, kindNamed}
 use Rattle.grammar.specs.Table.{agrees}
 use Rattle.flow.specs.Letters.{ZPT}
 use Rattle.flow.specs.Publication.{Flow, names, layoutFor, int}
 use Rattle.flow.specs.Flows.{flowsAndEditions, flowAt, p0012}
 use Rattle.flow.specs.Editions.{Asked, aFlow, noFlow}
-use Rattle.flow.specs.Proper.{keyFits, lastRow, ProperFooter, heads, nests, Proper}
+use Rattle.flow.specs.Proper.{keyFits, lastRow, heads, nests, Proper}
 
 -- every test of a proper flow but the rules of its footer
 abbrev tests : Flow → List Bool

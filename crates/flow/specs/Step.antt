@@ -1,7 +1,7 @@
 -- What the step of the flow table must answer, by the grammar alone (document 01, last lines of "Refusal numbers"). Assumes nothing.
 use Prim.Native.Nat.{ℕ, suc, _*_}
 use mathlib.Core.Path.{_≡_}
-use mathlib.Core.Bool.{Bool, true, false}
+use mathlib.Core.Bool.{Bool}
 use mathlib.Core.List.{List, [], _∷_, _++_}
 use lib.ListN.{length, drop}
 use Rattle.grammar.specs.Right.{Completes, StoppedRight, ThroughRight}

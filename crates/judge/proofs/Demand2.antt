@@ -1,26 +1,20 @@
 -- Demand 2: a file is accepted with n records exactly where it is right for a proper flow and has n records. Assumes nothing.
-use Prim.Native.Nat.{ℕ, _+_, _-_, _≤_}
+use Prim.Native.Nat.{ℕ, _+_}
 use mathlib.Core.Path.{_≡_, refl, sym, ap, subst, _∙_}
-use mathlib.Core.Bool.{Bool, true, false, cond, not, _&&_, _||_, false≢true}
+use mathlib.Core.Bool.{Bool, true, false, cond, not, _||_, false≢true}
 use mathlib.Core.Logic.{_↔_}
 use mathlib.Core.List.{List, [], _∷_, _++_, append-assoc}
 use native.Mathlib.Omega.{arith}
-use lib.Dec.{T, eqb}
 use lib.ListN.{length, drop, length-append}
 use borrow.Author.Tests.{eqb-true, eq-eqb}
-use Rattle.text.specs.Characters.{all}
 use Rattle.text.specs.Rules.{must}
-use Rattle.text.proofs.Places.{all-at}
-use Rattle.text.proofs.Tests.{is-true}
 use Rattle.text.proofs.Inverse.{same-said}
 use Rattle.record.specs.Records.{records, fields, field, bar}
 use Rattle.checksum.specs.Checksum.{checksum}
 use Rattle.place.specs.Places.{refusal}
 use Rattle.number.specs.Numbers.{spelled}
-use Rattle.number.proofs.Digits.{and-left, and-right}
-use Rattle.layout.specs.Layout.{Rule, Layout, row, mayFollow, isFooter}
-use Rattle.grammar.specs.Table.{agrees}
-use Rattle.flow.specs.Publication.{Flow, names, layoutFor}
+use Rattle.layout.specs.Layout.{Rule, Layout, isFooter}
+use Rattle.flow.specs.Publication.{Flow, layoutFor}
 use Rattle.flow.specs.Editions.{Asked, aFlow, noFlow, asked}
 use Rattle.flow.specs.Proper.{keyFits, Proper}
 use Rattle.flow.proofs.Proper.{ProperAsked}
@@ -37,7 +31,7 @@ use Rattle.judge.specs.declared.Judged.{Judged}
 use Rattle.judge.specs.declared.Judged.the-variants as answers
 use Rattle.judge.proofs.RightEach.{Each}
 use Rattle.judge.proofs.RightFields.{FineRecord, fine-each, is-typed, typed-is}
-use Rattle.judge.proofs.Passes.{Passes, passes, passed, must-accepted, bars, all-fine, last-spells}
+use Rattle.judge.proofs.Passes.{Passes, passes, passed, bars, all-fine, last-spells}
 use Rattle.judge.proofs.RightKinds.{Placed, placed-under, under-placed, under-footer, footer-ends}
 use Rattle.judge.proofs.RightKeys.{published-fits, rules-are, ascends-from, key-fine}
 

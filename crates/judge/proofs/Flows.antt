@@ -1,5 +1,5 @@
 -- The public judge, by what is asked. Assumes nothing.
-use mathlib.Core.Path.{_≡_, sym, ap, _∙_}
+use mathlib.Core.Path.{_≡_, ap, _∙_}
 use mathlib.Core.List.{List}
 use Prim.Native.Nat.{ℕ}
 use Rattle.place.specs.declared.Refusal.{Refusal}

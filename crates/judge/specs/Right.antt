@@ -13,7 +13,6 @@ use Rattle.checksum.specs.Checksum.{checksum as sumOfRecords}
 use Rattle.number.specs.Numbers.{spelled}
 use Rattle.field.specs.Judge.{fieldAnswer}
 use Rattle.field.specs.Keys.{keyOrder}
-use Rattle.field.specs.declared.FieldType.{FieldType}
 use Rattle.field.specs.declared.FieldAnswer.the-variants as answers
 use Rattle.layout.specs.Layout.{Rule}
 use Rattle.grammar.specs.Sets.{Under}

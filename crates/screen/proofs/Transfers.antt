@@ -1,10 +1,16 @@
--- Two answers of a writer or reader that say the same leave the same bytes. Assumes nothing.
+-- What a writer or reader hands over, in cells: the answer's numbers, and the same bytes. Assumes nothing.
 use Prim.Native.Nat.{ℕ}
-use mathlib.Core.Path.{_≡_, ap}
+use mathlib.Core.Path.{_≡_, ap, _∙_}
 use mathlib.Core.List.{List}
-use Rattle.sheet.specs.Write.{paper, output}
+use Rattle.sheet.specs.Write.{paper, output, Handed}
 use Rattle.sheet.specs.declared.Transfer.{Transfer}
 use Rattle.sheet.proofs.RoundTrip.{same-answer}
+use Rattle.screen.specs.Numbers.{transferCells, HandedCells}
 
-pub same-output : (a b : Transfer) → paper a ≡ paper b → (result old : List ℕ) → output a result old ≡ output b result old
-same-output a b e result old = ap (λ (t : Transfer). output t result old) (same-answer a b e)
+pub handed-cells : (said : Transfer) (result : List ℕ) (a : Transfer) (old new cells : List ℕ) → cells ≡ transferCells (paper a)
+    → Handed said result a old new → HandedCells said result cells old new
+handed-cells said result a old new cells c h =
+    record {
+      says = c ∙ ap transferCells (h .says);
+      leaves = h .leaves ∙ ap (λ (t : Transfer). output t result old) (same-answer a said (h .says));
+    }

@@ -42,12 +42,6 @@ fn say_rule(t: &[u32], fixed: &[u8], kind: usize, found: &[u8], r: Refusal) -> b
     form::right_field(r.number, form, mark, value, found)
 }
 
-// How many fields a kind has, its name among them.
-fn right_count(t: &[u32], kind: usize) -> usize {
-    let rules = layout::rules_of(t, kind);
-    rules.count + 1
-}
-
 // Where a record has just the number of fields that its kind has for these words, says so: the sender may have meant that edition.
 fn say_where_right(words: &[u8], sep: u8, r: &[u8]) -> bool {
     let Named::Flow(n) = flow::find(words) else {
@@ -56,7 +50,7 @@ fn say_where_right(words: &[u8], sep: u8, r: &[u8]) -> bool {
     let t = flow::table_of(n).numbers;
     let kind = fault::kind_of(&t, sep, r);
     let found = record::count_fields(sep, r);
-    if kind == 0 || right_count(&t, kind) != found {
+    if kind == 0 || findings::field_count(&t, kind) != found {
         return true;
     }
     print(b"; for `") && print(words) && print(b"` it has ") && say::number(found)
@@ -69,7 +63,7 @@ fn say_field_count(t: &[u32], sep: u8, kind: usize, r: &[u8]) -> bool {
         && print(b" fields, and ")
         && print(&layout::name_of(t, kind))
         && print(b" has ")
-        && say::number(right_count(t, kind))
+        && say::number(findings::field_count(t, kind))
         && say_where_right(b"P0133001 533", sep, r)
         && say_where_right(b"P0133001 711", sep, r)
 }

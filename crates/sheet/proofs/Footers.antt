@@ -4,7 +4,7 @@ use mathlib.Core.Path.{_≡_, refl, sym, ap, _∙_}
 use mathlib.Core.Bool.{Bool, true, false}
 use mathlib.Core.List.{List, [], _∷_, _++_, map}
 use native.Mathlib.Omega.{arith}
-use lib.Dec.{eqb, lit≤}
+use lib.Dec.{eqb}
 use lib.ListN.{length, getD, drop, length-append, List·getD-map}
 use lib.Seq.{getD-drop}
 use borrow.Author.Tests.{eq-eqb, ne-eqb, le-leb}
@@ -19,7 +19,7 @@ use Rattle.field.specs.Judge.{fieldAnswer, filled}
 use Rattle.number.proofs.Digits.{and-left, and-right, plain-some}
 use Rattle.number.proofs.ByValue.{bare-is, no-sign}
 use Rattle.number.proofs.Spelling.{decimal-plain, decimal-digits, decimal-short, decimal-int, decimal-spelled}
-use Rattle.layout.specs.Layout.{KindRow, Layout, row, blank, find, mayFollow, kindNamed, isFooter}
+use Rattle.layout.specs.Layout.{KindRow, Layout, row, blank, mayFollow, kindNamed, isFooter}
 use Rattle.flow.specs.Letters.{ZPT}
 use Rattle.flow.specs.Publication.{int}
 use Rattle.flow.specs.Proper.{lastRow, ProperFooter}

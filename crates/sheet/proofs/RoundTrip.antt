@@ -18,7 +18,6 @@ use Rattle.record.proofs.Cutting.{records-joined, records-free, joined-append}
 use Rattle.checksum.proofs.Sums.{checksumOf-joined}
 use Rattle.place.specs.Places.{refusal, refusalAt, whole}
 use Rattle.place.specs.declared.Refusal.{Refusal}
-use Rattle.layout.specs.Layout.{Layout}
 use Rattle.flow.specs.Publication.{layoutFor}
 use Rattle.flow.specs.Editions.{Asked, aFlow, noFlow}
 use Rattle.flow.proofs.Proper.{ProperAsked}

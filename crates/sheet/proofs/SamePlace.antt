@@ -5,7 +5,6 @@ use mathlib.Core.Bool.{Bool, true, false}
 use mathlib.Core.List.{List, [], _∷_, _++_, map}
 use native.Mathlib.Omega.{arith}
 use lib.ListN.{length, take, getD, length-append, length-map}
-use borrow.Author.Tests.{ne-eqb}
 use Rattle.text.specs.Rules.{must}
 use Rattle.text.specs.Characters.{from-to}
 use Rattle.record.specs.Records.{records, fields, extent, barred, joined, turned, holds, someHolds, Bytes, bar}

@@ -1,7 +1,5 @@
 -- The table is that of the flow asked for, which is proper; so its step is right for the flow. Assumes nothing.
-use Prim.Native.Nat.{ℕ}
-use mathlib.Core.Path.{_≡_, refl, sym, ap, _∙_, subst}
-use mathlib.Core.List.{List}
+use mathlib.Core.Path.{refl, sym, ap, _∙_, subst}
 use denote.Ref.{now}
 use Rattle.layout.specs.Layout.{Layout}
 use Rattle.flow.specs.Flows.{flowAt}

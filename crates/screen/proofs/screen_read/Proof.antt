@@ -1,13 +1,11 @@
 -- `screen_read` is right: the reader's answer, turned to numbers; the bytes are the reader's.
 use borrow.Author.Needs.{needs}
-use mathlib.Core.Path.{ap, _∙_}
 use lib.ListN.{length}
 use denote.Ref.{now}
 use Rattle.flow.specs.Editions.{asked}
 use Rattle.sheet.specs.Sheets.{sheetOf}
 use Rattle.sheet.specs.Read.{readTo}
-use Rattle.screen.specs.Numbers.{transferCells}
-use Rattle.screen.proofs.Transfers.{same-output}
+use Rattle.screen.proofs.Transfers.{handed-cells}
 use Rattle.screen.proofs.screen_read.Statement.{statement}
 use Rattle.screen.proofs.screen_read.Tie as tie
 
@@ -24,12 +22,8 @@ returns : tie.Need-returns
 returns c =
     let a = c .before .before .before .before .before .before .before .before .args in
     let w = c .before .before .before .read in
-    let old = now (a .out) in
-    let right = readTo (asked (now (a .flow))) (now (a .file)) (length old) in
-    record {
-      says = c .transfer-cells .ensures ∙ ap transferCells (w .ensures .says);
-      leaves = w .ensures .leaves ∙ same-output (w .result) right (w .ensures .says) (sheetOf (now (a .file))) old;
-    }
+    handed-cells (readTo (asked (now (a .flow))) (now (a .file)) (length (now (a .out)))) (sheetOf (now (a .file))) (w .result) (now (a .out)) _ _
+    (c .transfer-cells .ensures) (w .ensures)
 
 pub screen-read-spec : {M : Type 1} → statement M
 screen-read-spec = tie.close (tie.spec read-requires transfer-cells-requires same-length returns)

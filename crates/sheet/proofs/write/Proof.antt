@@ -2,7 +2,6 @@
 use borrow.Author.Needs.{needs}
 use mathlib.Core.Path.{sym, ap, _∙_, subst}
 use denote.Ref.{now}
-use Rattle.layout.specs.Layout.{Layout}
 use Rattle.flow.specs.Flows.{flowAt}
 use Rattle.flow.specs.Editions.{asked, told}
 use Rattle.flow.specs.Proper.{ProperFooter}
