@@ -7,6 +7,7 @@ use crate::csv::{export, import};
 use crate::field::{judge_field, Value};
 use crate::index::{index, Entry, Indexed};
 use crate::judge::{judge, value};
+use crate::period::has_period;
 use crate::refusal::Refusal;
 use crate::sheet::{read, write, Done};
 use crate::step::{step, Step};
@@ -34,6 +35,7 @@ pub fn answer(ask: &Ask) -> Vec<u8> {
         Ask::Index { flow, room, file } => in_list(*room, |list| index(flow, file, list)),
         Ask::Export { flow, room, file } => in_room(*room, |room| export(flow, file, room)),
         Ask::Import { room, text } => in_room(*room, |room| import(text, room)),
+        Ask::Period { flow, period, file } => value_line(has_period(flow, file, *period).map(Value::Truth)),
     }
 }
 

@@ -125,7 +125,8 @@ fn compared(form: Type, key: &[u8], before: &[u8]) -> Ordering {
     }
 }
 
-fn whole_number(form: Type, bytes: &[u8]) -> Option<i128> {
+/// The number that a filled field of this type stands for; None where it is refused, or no number.
+pub fn whole_number(form: Type, bytes: &[u8]) -> Option<i128> {
     match judge_field(form, &crate::field::Mark::None, bytes) {
         Ok(Value::Number(number)) => Some(number),
         _ => None,

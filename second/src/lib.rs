@@ -13,6 +13,7 @@ pub mod flows;
 pub mod grammar;
 pub mod index;
 pub mod judge;
+pub mod period;
 pub mod refusal;
 pub mod sheet;
 pub mod step;

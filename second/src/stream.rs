@@ -5,14 +5,14 @@ use crate::field::{Mark, Type};
 
 /// The greatest LENGTH, FIXED and ROOM, so that files over the limit can be tried.
 pub const LENGTH_LIMIT: usize = 1_114_112;
-/// The greatest RECORD and FIELD that can be asked.
+/// The greatest RECORD, FIELD and PERIOD that can be asked.
 pub const ASKED_LIMIT: usize = 1_000_000_000;
 /// The greatest ROOM of an index, in entries.
 pub const ENTRIES_LIMIT: usize = 8192;
 
 /// The kinds of case, by the first word of their header.
-pub const CASE_KINDS: [&str; 10] =
-    ["judge", "value", "field", "sum", "step", "write", "read", "index", "export", "import"];
+pub const CASE_KINDS: [&str; 11] =
+    ["judge", "value", "field", "sum", "step", "write", "read", "index", "export", "import", "period"];
 
 /// What a case asks, with its body's bytes. A flow is given by its words, whatever these are.
 #[derive(Debug)]
@@ -27,6 +27,7 @@ pub enum Ask<'a> {
     Index { flow: &'a [u8], room: usize, file: &'a [u8] },
     Export { flow: &'a [u8], room: usize, file: &'a [u8] },
     Import { room: usize, text: &'a [u8] },
+    Period { flow: &'a [u8], period: usize, file: &'a [u8] },
 }
 
 impl Ask<'_> {
@@ -43,6 +44,7 @@ impl Ask<'_> {
             Ask::Index { .. } => 7,
             Ask::Export { .. } => 8,
             Ask::Import { .. } => 9,
+            Ask::Period { .. } => 10,
         }
     }
 }
@@ -117,6 +119,9 @@ fn first_case(stream: &[u8]) -> Option<(Ask<'_>, usize)> {
         [b"index", flow, room, _] => Ask::Index { flow, room: number(room, ENTRIES_LIMIT)?, file: body },
         [b"export", flow, room, _] => Ask::Export { flow, room: number(room, LENGTH_LIMIT)?, file: body },
         [b"import", room, _] => Ask::Import { room: number(room, LENGTH_LIMIT)?, text: body },
+        [b"period", flow, period, _] => {
+            Ask::Period { flow, period: number(period, ASKED_LIMIT)?, file: body }
+        }
         _ => return None,
     };
     Some((ask, end + 1 + fixed + length))

@@ -30,7 +30,8 @@ impl<'a> Asked<'a> {
             | Ask::Value { flow, file, .. }
             | Ask::Read { flow, file, .. }
             | Ask::Index { flow, file, .. }
-            | Ask::Export { flow, file, .. } => (flow, file, BAR, FILE_LIMIT),
+            | Ask::Export { flow, file, .. }
+            | Ask::Period { flow, file, .. } => (flow, file, BAR, FILE_LIMIT),
             Ask::Write { flow, sheet, .. } => (flow, sheet, TAB, SHEET_LIMIT),
             Ask::Step { flow, kinds } => (flow, kinds, BAR, usize::MAX),
             _ => unreachable!("this asks for no flow"),
@@ -266,6 +267,12 @@ fn editions_of_files_to_export() {
     };
     let quoted = vec!["a quoted field of the newer edition".to_string()];
     hold("export", 2400, &[in_files(), quoted].concat(), quotes);
+}
+
+#[test]
+fn editions_of_files_asked_for_a_period() {
+    let long = vec!["21 over the limit".to_string()];
+    hold("period", 4000, &[all_spellings(), long].concat(), nothing_more);
 }
 
 #[test]

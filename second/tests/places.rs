@@ -6,6 +6,7 @@ use second::cases::Generator;
 use second::csv::{export, import, COMMA};
 use second::index::{index, Entry};
 use second::judge::{judge, value};
+use second::period::has_period;
 use second::refusal::Refusal;
 use second::sheet::{read, write};
 use second::stream::{cases_of, Ask};
@@ -30,6 +31,7 @@ fn refused<'a>(ask: &Ask<'a>) -> Option<Refused<'a>> {
         Ask::Export { flow, room, file } => (file, BAR, export(flow, file, &mut vec![0; room]).err()),
         Ask::Import { room, text } => (text, COMMA, import(text, &mut vec![0; room]).err()),
         Ask::Write { flow, room, sheet } => (sheet, TAB, write(flow, sheet, &mut vec![0; room]).err()),
+        Ask::Period { flow, period, file } => (file, BAR, has_period(flow, file, period).err()),
         _ => return None,
     };
     Some(Refused { bytes, parting, refusal: refusal? })
@@ -153,6 +155,13 @@ fn places_in_files_asked_for_a_value() {
         "a field that an unended record has not",
     ];
     hold("value", 3000, &[&IN_FILES[..], &asked].concat());
+}
+
+#[test]
+fn places_in_files_asked_for_a_period() {
+    // Such a file has 54 right records at most, so that none far down is refused.
+    let near: Vec<&str> = IN_FILES.into_iter().filter(|clause| *clause != "a record far down").collect();
+    hold("period", 2500, &near);
 }
 
 #[test]

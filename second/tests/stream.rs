@@ -121,6 +121,29 @@ fn answers_to_imports() {
 }
 
 #[test]
+fn answers_to_periods() {
+    let file = good("P0012001");
+    let of =
+        |words: &str, length: usize| answered(&format!("period\t{}\t{}", words, length), &file[..length]);
+    assert_eq!(of("P0012001\t9", file.len()), "ok\t0\ttruth\tT\n");
+    assert_eq!(of("P0012001\t8", file.len()), "ok\t0\ttruth\tF\n");
+    assert_eq!(of("P0012001 533\t0000000010", file.len()), "ok\t0\ttruth\tT\n");
+    assert_eq!(of("P0012001 711\t50", file.len()), "ok\t0\ttruth\tF\n");
+    assert_eq!(of("P0012001\t10", 128), "ok\t0\ttruth\tT\n");
+    assert_eq!(of("P0012001\t2", 109), "ok\t0\ttruth\tF\n");
+    assert_eq!(of("P0012001\t2", 108), "refused\t8\t5\t4\t102\n");
+    assert_eq!(of("P0012001\t11", 128), "refused\t14\t7\t0\t128\n");
+    assert_eq!(of("P0012001\t11", file.len() - 1), "refused\t15\t7\t0\t128\n");
+    assert_eq!(of("P0012001\t17", 0), "refused\t14\t1\t0\t0\n");
+    for period in ["0", "51", "1000000000"] {
+        assert_eq!(of(&format!("P0012001\t{}", period), file.len()), "refused\t18\t0\t0\t0\n");
+        assert_eq!(of(&format!("P0138001\t{}", period), file.len()), "refused\t22\t0\t0\t0\n");
+        assert_eq!(of(&format!("P0138001 5\t{}", period), file.len()), "refused\t21\t0\t0\t0\n");
+        assert_eq!(of(&format!("\t{}", period), file.len()), "refused\t1\t0\t0\t0\n");
+    }
+}
+
+#[test]
 fn headers_that_cannot_be_read() {
     let bad = [
         "",
@@ -210,6 +233,30 @@ fn headers_of_exports_and_imports_that_cannot_be_read() {
 }
 
 #[test]
+fn headers_of_a_period_that_cannot_be_read() {
+    let bad = [
+        "period",
+        "period\tP0012001\t0",
+        "period\t17\t0",
+        "period\tP0012001\t17\t0\t0",
+        "period\tP0012001\t\t0",
+        "period\tP0012001\t-1\t0",
+        "period\tP0012001\t+17\t0",
+        "period\tP0012001\t17 \t0",
+        "period\tP0012001\t1000000001\t0",
+        "period\tP0012001\t00000000017\t0",
+        "period\tP0012001\t17\t1114113",
+        "Period\tP0012001\t17\t0",
+    ];
+    for header in bad {
+        assert!(is_bad(&case(header, b"")), "{:?}", header);
+    }
+    assert!(is_bad(b"period\tP0012001\t17\t3\nab"), "a body cut short");
+    assert!(!is_bad(b"period\tP0012001\t1000000000\t3\nabc"));
+    assert!(!is_bad(b"period\t\t0000000000\t0\n"));
+}
+
+#[test]
 fn nothing_is_answered_behind_a_bad_header() {
     assert_eq!(cases_of(b"sum\t0\nbad\nsum\t0\n").count(), 2);
 }
@@ -218,6 +265,7 @@ fn nothing_is_answered_behind_a_bad_header() {
 fn the_comparison_finds_every_difference() {
     let sheet = sheet_of(&lines("P0138001"));
     let sets = good("P0133001");
+    let rows = good("P0012001");
     let stream = [
         case("judge\tP0138001\t88", EXAMPLE),
         case("write\tP0138001\t100\t72", &sheet),
@@ -226,6 +274,7 @@ fn the_comparison_finds_every_difference() {
         case("export\tP0138001\t100\t88", EXAMPLE),
         case("import\t9\t8", b"A,B\r\n|\r\n"),
         case("import\t9\t6", b"E,F\r\nG"),
+        case(&format!("period\tP0012001\t9\t{}", rows.len()), &rows),
         case("sum\t3", b"abc"),
         case("step\tP0133001\t3", b"ZHD"),
         case("value\tP0138001\t9\t2\t88", EXAMPLE),
@@ -234,7 +283,7 @@ fn the_comparison_finds_every_difference() {
     .concat();
     let right = answers(&stream);
     let same = compare(&stream, &right);
-    assert_eq!((same.cases, same.differences, same.kept.len()), (11, 0, 0));
+    assert_eq!((same.cases, same.differences, same.kept.len()), (12, 0, 0));
     for place in 0..right.len() {
         let mut other = right.clone();
         other[place] ^= 1;
@@ -265,6 +314,7 @@ fn the_comparison_finds_every_difference() {
     assert_eq!(compare(&stream, &none_exported).differences, 1);
     let other_imported = replaced(&right, "2\t6\t0\t1\nE\tF\nG\n", "3\t4\t0\t1\nE\tF\n");
     assert_eq!(compare(&stream, &other_imported).differences, 1);
+    assert_eq!(compare(&stream, &replaced(&right, "truth\tT", "truth\tF")).differences, 1);
     assert_eq!(compare(&stream, &[&right[..], b"more"].concat()).differences, 1);
 }
 
@@ -288,6 +338,8 @@ fn the_census_counts_by_kind_and_number() {
         case("import\t9\t1", b"\t"),
         case("step\tP0133001 533\t3", b"ZHD"),
         case("step\tP0133001 0711\t3", b"ZHD"),
+        case("period\tP0012001\t17\t0", b""),
+        case("period\tP0138001\t17\t88", EXAMPLE),
     ];
     let counted = |stream: &[u8]| census(stream).unwrap_or_else(|_| panic!("a good stream"));
     let all = counted(&stream.concat());
@@ -295,8 +347,9 @@ fn the_census_counts_by_kind_and_number() {
     assert_eq!((all.taken("index"), all.refused("index", 19), all.refused("read", 19)), (1, 1, 0));
     assert_eq!((all.taken("export"), all.taken("import"), all.refused("import", 20)), (1, 0, 1));
     assert_eq!((all.taken("step"), all.refused("step", 21), all.refused("judge", 21)), (1, 1, 0));
+    assert_eq!((all.taken("period"), all.refused("period", 14), all.refused("period", 22)), (0, 1, 1));
     assert_eq!(all.not_reached().len(), 17);
     assert!(all.table().ends_with("refusals not reached: 1 2 3 4 5 6 7 8 9 10 11 12 13 15 16 17 18\n"));
-    assert_eq!(counted(&stream[..7].concat()).not_reached().last(), Some(&21));
-    assert_eq!(counted(&stream[7..].concat()).not_reached().last(), Some(&20));
+    assert_eq!(counted(&stream[..9].concat()).not_reached().last(), Some(&22));
+    assert_eq!(counted(&stream[9..].concat()).not_reached().last(), Some(&21));
 }

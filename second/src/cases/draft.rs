@@ -99,6 +99,13 @@ impl Draft {
         }
     }
 
+    /// Puts records in before the footer, which stands last, and sets it right.
+    pub fn put_last(&mut self, records: impl IntoIterator<Item = Fields>) {
+        let place = self.records.len() - 1;
+        self.records.splice(place..place, records);
+        self.refoot();
+    }
+
     /// Sets count and checksum of the first footer right, whatever stands before it.
     pub fn refoot(&mut self) {
         if let Some(place) = self.footer_place() {

@@ -62,7 +62,7 @@ fn carriage_returns(bytes: &mut Vec<u8>, dice: &mut Dice) {
     }
 }
 
-fn behind_the_end(bytes: &mut Vec<u8>, dice: &mut Dice) {
+pub fn behind_the_end(bytes: &mut Vec<u8>, dice: &mut Dice) {
     let more: [&[u8]; 10] =
         [b"\n", b"\n\n", b"\x00", b"\x1a", b"ZPT|1|0\n", b"ZHD\n", b"XXX\n", b" ", b"\r\n", b"|\n"];
     bytes.extend(*dice.pick(&more));

@@ -15,19 +15,26 @@ pub enum Place {
     Middle,
     Last,
     Any,
+    /// A record by its place, counted from 0.
+    At(usize),
 }
 
 pub const PLACES: [Place; 4] = [Place::First, Place::Middle, Place::Last, Place::Any];
 
-/// Puts the faults in. Those of fields come first and those of kinds later, so that one
-/// does not undo the other; then the footer is mostly set right again, so that only the
-/// wanted faults are left; then the faults of the footer and of the end.
+/// Puts the faults in, anywhere.
 pub fn spoil(draft: &mut Draft, numbers: &[u8], dice: &mut Dice) {
-    let shared = *dice.pick(&PLACES);
+    spoil_at(&PLACES, draft, numbers, dice);
+}
+
+/// Puts the faults in at some of the places. Those of fields come first and those of kinds later,
+/// so that one does not undo the other; then the footer is mostly set right again, so that only the
+/// wanted faults are left; then the faults of the footer and of the end.
+pub fn spoil_at(places: &[Place], draft: &mut Draft, numbers: &[u8], dice: &mut Dice) {
+    let shared = *dice.pick(places);
     let alone = dice.one_in(2);
     let put = |draft: &mut Draft, order: &[u8], dice: &mut Dice| {
         for &number in order.iter().filter(|number| numbers.contains(number)) {
-            let place = if alone { *dice.pick(&PLACES) } else { shared };
+            let place = if alone { *dice.pick(places) } else { shared };
             put_fault(draft, number, place, dice);
         }
     };
@@ -65,6 +72,7 @@ fn from_place(place: Place, count: usize, dice: &mut Dice) -> Vec<usize> {
         Place::Last => return (0..count).rev().collect(),
         Place::Middle => count / 2,
         Place::Any => dice.below(count.max(1)),
+        Place::At(record) => record.min(count),
     };
     (start..count).chain(0..start).collect()
 }
@@ -248,6 +256,7 @@ fn cut_short(draft: &mut Draft, place: Place, dice: &mut Dice) -> bool {
         Place::Middle => end / 2,
         Place::Last => end,
         Place::Any => dice.between(0, end),
+        Place::At(record) => record,
     };
     draft.records.truncate(left.min(end));
     true

@@ -63,7 +63,7 @@ fn many_heads(dice: &mut Dice) -> Given {
     let wanted = *dice.pick(&[ENTRIES_LIMIT - 1, ENTRIES_LIMIT, ENTRIES_LIMIT + 1]);
     let lone = good_record(draft.flow.layout(kind).expect("a kind of its flow"), None, dice);
     let more = vec![lone; wanted - 2 * own];
-    put_last(&mut draft, more.into_iter().chain(sets));
+    draft.put_last(more.into_iter().chain(sets));
     given(&draft, draft.file(), dice)
 }
 
@@ -85,13 +85,6 @@ fn many_children(wanted: usize, dice: &mut Dice) -> Given {
     // All the rest of the file takes less than 1000 bytes.
     let room = (FILE_LIMIT - 1000) / (numbered(0).join(&BAR).len() + 1);
     set.extend((0..wanted.min(room)).map(numbered));
-    put_last(&mut draft, set);
+    draft.put_last(set);
     given(&draft, draft.file(), dice)
-}
-
-/// Puts records in before the footer, and sets it right.
-fn put_last(draft: &mut Draft, records: impl IntoIterator<Item = Fields>) {
-    let place = draft.records.len() - 1;
-    draft.records.splice(place..place, records);
-    draft.refoot();
 }

@@ -88,7 +88,8 @@ fn first_key(form: Type, dice: &mut Dice) -> Vec<u8> {
     }
 }
 
-fn period(bytes: &[u8]) -> usize {
+/// The number of a period, or of a date, that is written right.
+pub fn period(bytes: &[u8]) -> usize {
     bytes.iter().fold(0, |sum, digit| sum * 10 + usize::from(digit - b'0'))
 }
 

@@ -10,6 +10,7 @@ pub mod footers;
 pub mod heads;
 pub mod keys;
 pub mod parts;
+pub mod periods;
 pub mod sweep;
 pub mod texts;
 pub mod values;
@@ -21,10 +22,11 @@ use crate::sheet::{made_file, made_sheet};
 use crate::stream::{ASKED_LIMIT, CASE_KINDS, ENTRIES_LIMIT, LENGTH_LIMIT};
 use dice::Dice;
 use files::{given, Given};
-use sweep::{swept, swept_field, swept_text, Swept};
+use periods::Asked;
+use sweep::{swept, swept_field, swept_period, swept_text, Swept};
 
 /// What comes in one round: each kind of case, so many by the dice, so many from a sweep.
-const ROUND: [(&str, usize, usize); 10] = [
+const ROUND: [(&str, usize, usize); 11] = [
     ("judge", 8, 2),
     ("value", 3, 1),
     ("field", 4, 2),
@@ -35,6 +37,7 @@ const ROUND: [(&str, usize, usize); 10] = [
     ("index", 4, 1),
     ("export", 3, 1),
     ("import", 5, 2),
+    ("period", 6, 2),
 ];
 
 /// One place in a round.
@@ -95,7 +98,8 @@ impl Generator {
             "read" => read_case(turn, dice),
             "index" => index_case(turn, dice),
             "export" => export_case(turn, dice),
-            _ => import_case(turn, dice),
+            "import" => import_case(turn, dice),
+            _ => period_case(turn, dice),
         }
     }
 
@@ -117,10 +121,11 @@ impl Generator {
     }
 }
 
-/// The sweep of a kind of case: files and sheets share one, single fields and texts have their own.
+/// The sweep of a kind of case: files and sheets share one; single fields, texts and files asked for a
+/// period have their own.
 fn sweep_of(kind: &str) -> &str {
     match kind {
-        "field" | "import" => kind,
+        "field" | "import" | "period" => kind,
         _ => "file",
     }
 }
@@ -179,6 +184,14 @@ fn import_case(turn: Option<usize>, dice: &mut Dice) -> Vec<u8> {
     let length = imported(&text).map_or(text.len(), |imported| imported.sheet.len());
     let room = room(length, LENGTH_LIMIT, dice).to_string();
     written(b"import", room.as_bytes(), "", &text)
+}
+
+fn period_case(turn: Option<usize>, dice: &mut Dice) -> Vec<u8> {
+    let Asked { given: Given { flow, bytes }, period } = match turn {
+        Some(turn) => swept_period(turn, dice),
+        None => periods::asked(dice),
+    };
+    written(b"period", &flow, &format!("\t{}", period), &bytes)
 }
 
 /// A file, with the record and field that the sweep changed if it did.

@@ -1,10 +1,12 @@
 //! Sweeps: cases that go through all there is in turn, so that a few thousand of them leave
-//! nothing out, whatever the dice say. One sweep is over every field of every flow, the others
-//! over every byte in a single field and in a text.
+//! nothing out, whatever the dice say. One sweep is over every field of every flow, two are over
+//! every byte in a single field and in a text, and one is over every period.
 
 use super::dice::Dice;
 use super::draft::Draft;
+use super::files::given;
 use super::parts::{held_type, FieldCase};
+use super::periods::{self, Asked, ROWS};
 use super::texts::Text;
 use super::values::{bad_form, bad_range, good, one_too_wide, widest};
 use crate::field::{Mark, Type};
@@ -87,4 +89,32 @@ pub fn swept_text(turn: usize, dice: &mut Dice) -> Vec<u8> {
     let mut text = Text::good(dice);
     text.put(&[before, &[(turn % 256) as u8], behind].concat(), dice);
     text.bytes()
+}
+
+/// The periods that are asked for in turn: all of them, and the numbers next to them.
+const PERIODS: usize = 52;
+
+/// Which periods a file's rows have, by the period asked for.
+const HAVE: [fn(usize, usize) -> bool; 6] = [
+    |_, _| true,
+    |own, asked| own != asked,
+    |own, asked| own == asked,
+    |own, asked| own < asked,
+    |own, asked| own > asked,
+    |_, _| false,
+];
+
+/// A file asked for each period in turn, which it has or not, with others below it and above it or not;
+/// then all of these once more, ending behind their rows.
+pub fn swept_period(turn: usize, dice: &mut Dice) -> Asked {
+    let (asked, has) = (turn % PERIODS, HAVE[turn / PERIODS % HAVE.len()]);
+    let kind = dice.pick(&ROWS);
+    let own = (1..=50).filter(|&own| has(own, asked));
+    let rows: Vec<_> = own.map(|own| periods::row(kind, own.to_string().as_bytes(), dice)).collect();
+    let mut draft = Draft::good(periods::flow(), 0, dice);
+    draft.put_last(rows);
+    if turn / (PERIODS * HAVE.len()) % 2 == 1 {
+        draft.records.pop();
+    }
+    Asked { given: given(&draft, draft.file(), dice), period: asked }
 }
