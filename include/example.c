@@ -4,7 +4,7 @@
 
      judge FLOW LENGTH    value FLOW RECORD FIELD LENGTH    field TYPE MARK FIXED LENGTH    sum LENGTH
      step FLOW LENGTH     write FLOW ROOM LENGTH            read FLOW ROOM LENGTH              index FLOW ROOM LENGTH
-     import ROOM LENGTH   export FLOW ROOM LENGTH
+     import ROOM LENGTH   export FLOW ROOM LENGTH           period FLOW PERIOD LENGTH
 
    FLOW is a flow's name, or that, a space and an edition. ROOM is a number of bytes, for index of entries. The line of an index
    is followed by a line for each entry.
@@ -139,6 +139,12 @@ static void value(struct word flow, screen_size record, screen_size field, scree
     put_value(body);
 }
 
+static void period(struct word flow, screen_size asked, screen_size len) {
+    lend(0);
+    screen_period((screen_byte *)flow.at, flow.len, body, len, asked, answer);
+    put_value(body);
+}
+
 static void field(screen_code type, screen_size p, screen_size q, screen_code mark, screen_size fixed, screen_size len) {
     lend(0);
     screen_field(type, p, q, mark, body, fixed, body + fixed, len, answer);
@@ -254,6 +260,7 @@ static int answer_case(void) {
     else if (is("sum", 2)) printf("ok\t0\t%u\t0", screen_checksum(body, len));
     else if (is("step", 3)) step(word[1], len);
     else if (is("value", 5) && number(2, ASKED, &asked) && number(3, ASKED, &more)) value(word[1], asked, more, len);
+    else if (is("period", 4) && number(2, ASKED, &asked)) period(word[1], asked, len);
     else if (is("write", 4) && number(2, MOST, &asked)) transfer(screen_write, word[1], asked, len);
     else if (is("read", 4) && number(2, MOST, &asked)) transfer(screen_read, word[1], asked, len);
     else if (is("export", 4) && number(2, MOST, &asked)) transfer(screen_export, word[1], asked, len);
@@ -323,6 +330,29 @@ static void numbers_of_value(void) {
     }
 }
 
+/* Periods of a file, of its front up to the end of GSP 17, and by numbers of which only the low half is a period. */
+static void numbers_of_period(void) {
+    static const struct { char *flow; screen_size period, len; } call[] = {
+        { "P0012001", 17, 143 },
+        { "P0012001", 18, 143 },
+        { "P0012001", 17, 109 },
+        { "P0012001", 18, 109 },
+        { "P0012001", 0, 143 },
+        { "P0012001", 51, 143 },
+        { "P0012001", (1UL << 32) + 17, 143 },
+        { "P0012001", ~(screen_size)0, 143 },
+        { "P0138001", 17, 143 },
+        { "P0138001", 0, 143 },
+    };
+    put_in_body("ZHD|P0012001|G|SVAA|S|ABCD|20240105120000\nZPD|20240104|SF||7|_A\nHDR|12|SF|-3\nGSP|3|12|1.0000\n"
+                "GSP|17|-4|3.0000\nGSP|40|0|0.5000\nZPT|7|1377724441\n");
+    for (screen_size i = 0; i < sizeof call / sizeof call[0]; i++) {
+        printf("period\t%s\t%lu\t%lu\t", call[i].flow, call[i].period, call[i].len);
+        period((struct word){ call[i].flow, 8 }, call[i].period, call[i].len);
+        putchar('\n');
+    }
+}
+
 /* The index of a file with one entry, in cells that are no whole number of entries. */
 static void counts_of_cells(void) {
     static const screen_size call[] = { 3, 4, 7 };
@@ -341,6 +371,7 @@ int main(int count, char **words_given) {
     if (count == 2 && strcmp(words_given[1], "codes") == 0) {
         codes_of_field();
         numbers_of_value();
+        numbers_of_period();
         counts_of_cells();
         return 0;
     }

@@ -15,7 +15,7 @@
    written, whatever they held, and a cell that says nothing is 0:
 
      cell          0                1           2                3
-     any refusal   number, 1 to 21  record or 0 field or 0       byte place
+     any refusal   number, 1 to 22  record or 0 field or 0       byte place
      judge         0                records     0                0
      write, read   0                records     bytes written    0
      export        0                records     bytes written    0
@@ -25,6 +25,7 @@
                    0                2: number   its size         1 if below zero, else 0
                    0                3: truth    1 yes, 0 no      0
                    0                4: text     where it starts  where it ends, both counted from 0, the end not in it
+     period        0                3: truth    1 yes, 0 no      0
      step          0                0           kinds to follow  1 if the list is complete, else 0
                    0                place       0                0; the kind, counted from 1, where the list stopped
 
@@ -37,13 +38,15 @@
       1 no such flow              8 form of a field                15 last line feed absent
       2 more bytes than may be    9 range of a field               16 bar in a sheet or text
       3 record over 512 bytes    10 fixed value or null differs    17 out too short
-      4 no kind of this flow     11 key out of its order           18 no such record, field, width or code
+      4 no kind of this flow     11 key out of its order           18 no such record, field, width, code or period
       5 kind not allowed here    12 record count wrong             19 cells too few for the entries
       6 wrong number of fields   13 checksum wrong                 20 not comma-separated text
-      7 required field empty     14 records end before ZPT        21 no such edition
+      7 required field empty     14 records end before ZPT         21 no such edition
+                                                                   22 another flow
 
    1 is for a name that is none of these, or with anything but a space behind it; 21 for a space with anything but 533 or 711
-   behind it, of whichever flow. 21 comes right after 1, before all else that a function may refuse. */
+   behind it, of whichever flow. 21 comes right after 1, before all else that a function may refuse. 22 is for another flow than
+   the one that a function is for, which is P0012001 for screen_period. */
 #ifndef SCREEN_H
 #define SCREEN_H
 
@@ -94,6 +97,13 @@ void screen_import(const screen_byte *text, screen_size text_len, screen_byte *o
    or datetime its digits as one number; the places of a text are places in file. */
 void screen_value(const screen_byte *flow, screen_size flow_len, const screen_byte *file, screen_size file_len,
                   screen_size record, screen_size field, screen_cell answer[4]);
+
+/* Says whether a P0012001 file has a period. It stops at the first GSP or GS2 whose period is the asked one or above, and what is
+   behind that does not count; up to there, or to the end where there is no such record, it refuses what screen_judge would. Of a
+   file that screen_judge accepts the answer is that of all its records. 22, another flow, comes right after 1 and 21, then 18, a
+   period outside 1 to 50, both at record 0; then 2. */
+void screen_period(const screen_byte *flow, screen_size flow_len, const screen_byte *file, screen_size file_len,
+                   screen_size period, screen_cell answer[4]);
 
 /* Judges one field's bytes against a type and a mark; the places of a text are places in bytes. text has its width in p (1
    to 512), int its digits (1 to 18), dec all its digits in p (2 to 18) and those after the point in q (1 to p - 1). Another

@@ -48,6 +48,11 @@ extern "C" {
         flow: *const u8, flow_len: usize, file: *const u8, file_len: usize, record: usize, field: usize, answer: *mut [u64; 4],
     );
 
+    /// Says whether a P0012001 file has a period.
+    pub fn screen_period(
+        flow: *const u8, flow_len: usize, file: *const u8, file_len: usize, period: usize, answer: *mut [u64; 4],
+    );
+
     /// Judges one field's bytes against a type and a mark.
     pub fn screen_field(
         code: u32, p: usize, q: usize, mark: u32, fixed: *const u8, fixed_len: usize, bytes: *const u8, bytes_len: usize,

@@ -4,6 +4,7 @@
 // same answers and bytes, or the program ends with status 1.
 #include "peer.h"
 #include "../include/screen.h"
+#include "timing.h"
 
 #define MOST 1048576
 #define MOST_TEXT 1048000
@@ -155,19 +156,6 @@ static const struct { const char *name; void (*peer)(void), (*screen)(void); int
     { "export", own_judges, screen_exports, as_judged },
     { "import", own_judges, screen_imports, sheet_again },
 };
-
-// Processor time, so that other programs on the machine count less.
-static double now(void) {
-    struct timespec t;
-    clock_gettime(CLOCK_PROCESS_CPUTIME_ID, &t);
-    return t.tv_sec * 1e9 + t.tv_nsec;
-}
-
-static double time_of(void (*part)(void), unsigned calls) {
-    double began = now();
-    for (unsigned i = 0; i < calls; i++) part();
-    return (now() - began) / calls;
-}
 
 // The best times of one flow, part and size.
 struct times { size_t bytes; double peer, screen; };

@@ -28,6 +28,8 @@ use Rattle.csv.proofs.Computed.{computed as imported}
 use Rattle.index.specs.Entries.{indexed, listed}
 use Rattle.index.specs.Entries as index
 use Rattle.index.specs.declared.Entry.{Entry}
+use Rattle.period.specs.Answer.{hasPeriod}
+use Rattle.period.specs.Answer as period
 
 -- lines with a line feed after each
 abbrev pub lines : List String → List ℕ
@@ -59,6 +61,7 @@ pub data Said : Type 0 where
   ofSum : ℕ → Said
   ofStep : Stepped → Said
   ofIndex : index.Reply → List Entry → Said
+  ofPeriod : period.Reply → Said
 
 -- a call, and after it what the papers say
 pub data Case : Type 0 where
@@ -82,6 +85,8 @@ pub data Case : Type 0 where
   importing : List ℕ → List ℕ → sheet.Reply → List ℕ → Case
   -- a flow, a file and a lent list
   indexing : String → List ℕ → List Entry → index.Reply → List Entry → Case
+  -- a flow, a file and a period
+  finding : String → List ℕ → ℕ → period.Reply → Case
 
 -- the answer of a part that makes a file, a sheet or a text, and the lent output after it
 abbrev pub transferred : Transfer → List ℕ → List ℕ → Said
@@ -99,6 +104,7 @@ given (stepping flow kinds r) = ofStep (stepped (asked (bytes flow)) (bytes kind
 given (exporting flow f old r new) = transferred (exported (asked (bytes flow)) f (length old)) (exportOf f) old
 given (importing text old r new) = transferred (imported text (length old)) (sheetFrom atLine text) old
 given (indexing flow f old r new) = ofIndex (indexed (asked (bytes flow)) f (length old)) (listed (asked (bytes flow)) f old)
+given (finding flow f p r) = ofPeriod (hasPeriod (asked (bytes flow)) f p)
 
 -- the answer by the papers
 unfoldable pub expected : Case → Said
@@ -112,6 +118,7 @@ expected (stepping flow kinds r) = ofStep r
 expected (exporting flow f old r new) = ofSheet r new
 expected (importing text old r new) = ofSheet r new
 expected (indexing flow f old r new) = ofIndex r new
+expected (finding flow f p r) = ofPeriod r
 
 -- all of some cases are answered as the papers say
 abbrev pub Right : List Case → Type 0

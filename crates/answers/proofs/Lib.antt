@@ -15,4 +15,5 @@ pub mod BesideFile
 pub mod MonthEnds
 pub mod CommaText
 pub mod NewerSubject
+pub mod StopEarly
 pub mod Answers

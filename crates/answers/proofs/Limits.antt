@@ -22,7 +22,9 @@ use Rattle.sheet.specs.Sheets.{barLine}
 use Rattle.sheet.specs.Write.{writtenBy, written}
 use Rattle.sheet.specs.Write as ofSheet
 use Rattle.sheet.specs.Read.{readTo}
-use Rattle.answers.proofs.Cases.{copies, copies-length, Case, judging, writing, reading, asking, given, expected, Right}
+use Rattle.period.specs.Answer.{readUpTo, hasBy, hasFor, hasPeriod}
+use Rattle.period.specs.Answer as ofPeriod
+use Rattle.answers.proofs.Cases.{copies, copies-length, Case, judging, writing, reading, asking, finding, given, expected, Right}
 
 -- feeds and letters are one byte over a file's limit, and rest fills a file up to it; sheetFeeds, bars and sheetRest are so of a sheet
 unfoldable pub limitsOf : List ℕ → List ℕ → List ℕ → List ℕ → List ℕ → List ℕ → List Case
@@ -43,6 +45,12 @@ limitsOf feeds letters rest sheetFeeds bars sheetRest =
     ∷ reading "P0138001 712" feeds [] (ofSheet.refused 21 0 0 0) []
     ∷ asking "P0133001 712" feeds 1 1 (ofValue.refused 21 0 0 0)
     ∷ writing "P0133001 712" sheetFeeds [] (ofSheet.refused 21 0 0 0) []
+    -- is a period there: 1, 21, 22 and 18 before 2
+    ∷ finding "P0012001" feeds 17 (ofPeriod.refused 2 0 0 0)
+    ∷ finding "P0012001" feeds 51 (ofPeriod.refused 18 0 0 0)
+    ∷ finding "P0138001" feeds 17 (ofPeriod.refused 22 0 0 0)
+    ∷ finding "P0012001 712" feeds 17 (ofPeriod.refused 21 0 0 0)
+    ∷ finding "P0012002" feeds 17 (ofPeriod.refused 1 0 0 0)
     -- 2 and 3, in the writer 2 and 16
     ∷ judging "P0138001" letters (refused 2 0 0 0)
     ∷ writing "P0138001" bars [] (ofSheet.refused 2 0 0 0) []
@@ -61,7 +69,7 @@ module _ (feeds letters rest sheetFeeds bars sheetRest : List ℕ) where
       → length bars ≡ 1048001
       → length sheetRest ≡ 1047998
       → Right (limitsOf feeds letters rest sheetFeeds bars sheetRest)
-  unfolding given expected limitsOf onto records fields field extent holds fieldStart placeAt find flowNumber placeFault kindFault fault checkedFrom judgedBy asked usual judgedFor judged valueBy valueIn valued barLine writtenBy written readTo
+  unfolding given expected limitsOf onto records fields field extent holds fieldStart placeAt find flowNumber placeFault kindFault fault checkedFrom judgedBy asked usual judgedFor judged valueBy valueIn valued barLine writtenBy written readTo readUpTo hasBy hasFor hasPeriod
   by-length a b c d e f = rw (a, b, c, d, e, f, one-at-least (length (records rest)), one-at-least (length (records sheetRest))) refl
 
 -- with line feeds, letters and bars

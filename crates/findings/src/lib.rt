@@ -102,12 +102,16 @@ pub fn last_of_kind<'a>(t: &[u32], sep: u8, kind: usize, file: &'a [u8], n: usiz
     text::part(file, last.from, last.len)
 }
 
-// The part of a caller's words that is refused with a number: by 21 the edition, behind eight characters and the space, by 1 all of them.
+// The part of a caller's words that is refused with a number: by 22 the flow, in eight characters, by 21 the edition, behind them and the
+// space, by 1 all of the words.
 pub fn refused_part<'a>(words: &'a [u8], number: usize) -> &'a [u8]
     ensures { λ s. ⌜ now s ≡ refusedPart (now (words .entry)) number ⌝ }
 {
     if number == 21 {
         return text::part(words, 9, words.len());
+    }
+    if number == 22 {
+        return text::part(words, 0, 8);
     }
     text::part(words, 0, words.len())
 }

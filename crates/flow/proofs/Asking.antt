@@ -1,7 +1,7 @@
 -- What some words ask for, test by test; and whatever they ask for is proper. Assumes nothing.
 use Prim.Native.Nat.{ℕ, zero, suc, _+_, _-_, _≤_, _<_}
 use mathlib.Core.Path.{_≡_, refl, sym, ap, _∙_, subst}
-use mathlib.Core.Bool.{Bool, true, false, cond, _&&_, or-true, and-false, false≢true}
+use mathlib.Core.Bool.{Bool, true, false, cond, not, _&&_, or-true, and-false, false≢true}
 use mathlib.Core.List.{List, [], _∷_, _++_, map, append-assoc}
 use native.Mathlib.Omega.{arith}
 use lib.Dec.{T, eqb}
@@ -14,7 +14,7 @@ use Rattle.text.specs.Order.{sameBytes}
 use Rattle.text.specs.Rules.{must}
 use Rattle.text.proofs.Places.{place-name}
 use Rattle.text.proofs.Lists.{same→≡, same-refl}
-use Rattle.text.proofs.Tests.{and-left, and-right, is-true}
+use Rattle.text.proofs.Tests.{and-left, and-right, holds, is-true}
 use Rattle.place.specs.Places.{whole}
 use Rattle.place.specs.declared.Refusal.{Refusal}
 use Rattle.flow.specs.Letters.{P0133001, E533, E711}
@@ -169,3 +169,49 @@ none-named name eight =
 -- flows other than P0133001 have the same layout in each edition
 pub one-layout : (edition name : List ℕ) → sameBytes P0133001 name ≡ false → flowIn edition name ≡ flowNamed name
 one-layout edition name e = rw (e, and-false (sameBytes E711 edition))
+
+-- flow number n of the six has the n-th name
+name-at : (i : ℕ) → i < length known → flowAt (suc i) .name ≡ getD known i []
+name-at zero h = refl
+name-at (suc zero) h = refl
+name-at (suc (suc zero)) h = refl
+name-at (suc (suc (suc zero))) h = refl
+name-at (suc (suc (suc (suc zero)))) h = refl
+name-at (suc (suc (suc (suc (suc zero))))) h = refl
+name-at (suc (suc (suc (suc (suc (suc i)))))) h = absurd (omega arith)
+
+-- the flow of a name that we hold has that name
+named-so : (name : List ℕ) (n : ℕ) → flowNumber name ≡ n → held name ≡ true → flowAt n .name ≡ name
+unfolding flowNumber
+named-so name zero e h = absurd (false≢true (sym (ap (λ (m : ℕ). not (eqb m 0)) e) ∙ h))
+named-so name (suc i) e h =
+    let there = place-name name known i e in
+    name-at i (there .0) ∙ there .1
+
+-- so it has in each edition
+in-edition : (newer third : Bool) (name : List ℕ) → (third ≡ true → P0133001 ≡ name) → flowNamed name .name ≡ name
+    → cond (newer && third) p0133In711 (flowNamed name) .name ≡ name
+in-edition true true name is e = is refl
+in-edition true false name is e = e
+in-edition false third name is e = e
+
+-- a flow that is asked for passed both tests
+passed-tests : (b c : Bool) (other fl : Flow) → must b (noFlow (whole 1)) (must c (noFlow (whole 21)) (aFlow other)) ≡ aFlow fl → (b ≡ true) × (other ≡ fl)
+passed-tests true true other fl e = (refl, cc)
+passed-tests true false other fl e = absurd (let z : _≡_ {A = ℕ} 0 1 = cc in omega arith)
+passed-tests false c other fl e = absurd (let z : _≡_ {A = ℕ} 0 1 = cc in omega arith)
+
+-- a flow that words ask for: that of the name and the edition in them, and we hold the name
+pub flow-asked : (words : List ℕ) (fl : Flow) → asked words ≡ aFlow fl → (held (nameIn words) ≡ true) × (flowIn (editionIn words) (nameIn words) ≡ fl)
+unfolding asked
+flow-asked words fl e =
+    let x = passed-tests (held (nameIn words) && endsOrSpace words) (isEdition (editionIn words)) (flowIn (editionIn words) (nameIn words)) fl e in
+    (is-true (held (nameIn words)) (and-left (held (nameIn words)) (endsOrSpace words) (holds (x .0))), x .1)
+
+-- the flow that words ask for has the name that they begin with
+pub asked-name : (words : List ℕ) (fl : Flow) → asked words ≡ aFlow fl → fl .name ≡ nameIn words
+asked-name words fl e =
+    let name = nameIn words in
+    let x = flow-asked words fl e in
+    ap (λ (f : Flow). f .name) (sym (x .1))
+    ∙ in-edition (sameBytes E711 (editionIn words)) (sameBytes P0133001 name) name (λ t. same→≡ P0133001 name (holds t)) (named-so name (flowNumber name) refl (x .0))

@@ -35,7 +35,7 @@ abbrev pub numberIn : Number → Fault → (ℕ → Header) → Header
 numberIn (numbers.Is n) fault after = after n
 numberIn numbers.Bad fault after = Bad fault
 
--- LENGTH, FIXED and ROOM for bytes; RECORD and FIELD; ROOM for entries
+-- LENGTH, FIXED and ROOM for bytes; RECORD, FIELD and PERIOD; ROOM for entries
 abbrev pub lengthIn : List ℕ → Number
 lengthIn s = numberOf 10 1114112 s
 
@@ -68,6 +68,10 @@ valueOf h =
     (numberIn (askedIn (wordOf 3 h)) faults.Record
     (λ n. numberIn (askedIn (wordOf 4 h)) faults.Field
     (λ k. caseOf (asks.Value n k) 0 (wordOf 5 h))))
+
+-- period FLOW PERIOD LENGTH
+unfoldable pub periodOf : List ℕ → Header
+periodOf h = ofWords 4 h (numberIn (askedIn (wordOf 3 h)) faults.Period (λ p. caseOf (asks.Period p) 0 (wordOf 4 h)))
 
 -- NAME FLOW ROOM LENGTH, or NAME ROOM LENGTH
 unfoldable pub makingOf : Making → ℕ → List ℕ → Header
@@ -111,7 +115,8 @@ caseNamed name h =
     (cond (sameBytes name (bytes "field")) (fieldOf h)
     (cond (sameBytes name (bytes "sum")) (plainOf asks.Sum 2 h)
     (cond (sameBytes name (bytes "step")) (plainOf asks.Step 3 h)
-    (roomNamed name h)))))
+    (cond (sameBytes name (bytes "period")) (periodOf h)
+    (roomNamed name h))))))
 
 -- a header: a carriage return at its end is named first, since it does not show
 unfoldable pub headerOf : List ℕ → Header

@@ -10,12 +10,12 @@ ghost use mathlib.Core.Path.{_≡_};
 ghost use Prim.Native.Nat.{_≤_};
 ghost use lib.ListN.{length};
 ghost use Rattle.record.specs.Records.{fields};
-ghost use Rattle.headers.specs.Headers.{wordOf, lengthIn, askedIn, entriesIn, wrongWords, caseOf, plainOf, valueOf, makingOf, indexOf, markIn, formIn, fieldOf, roomNamed, caseNamed, headerOf};
+ghost use Rattle.headers.specs.Headers.{wordOf, lengthIn, askedIn, entriesIn, wrongWords, caseOf, plainOf, valueOf, periodOf, makingOf, indexOf, markIn, formIn, fieldOf, roomNamed, caseNamed, headerOf};
 
 // The greatest LENGTH, FIXED and ROOM for bytes, so that files over the limit can be tried.
 const LENGTH_LIMIT: usize = 1114112;
 
-// The greatest RECORD and FIELD.
+// The greatest RECORD, FIELD and PERIOD.
 const ASKED_LIMIT: usize = 1000000000;
 
 // The greatest ROOM for entries of an index.
@@ -33,6 +33,7 @@ pub enum Making {
 pub enum Ask {
     Judge,
     Value { record: usize, field: usize },
+    Period { period: usize },
     Field { form: FieldType, mark: Mark },
     Sum,
     Step,
@@ -54,6 +55,7 @@ pub enum Fault {
     Words { right: usize, came: usize },
     Record,
     Field,
+    Period,
     Type,
     Mark,
     Fixed,
@@ -82,7 +84,7 @@ fn read_length(digits: &[u8]) -> Number
     words::read_number(digits, 10, LENGTH_LIMIT)
 }
 
-// A record or a field that is asked.
+// A record, a field or a period that is asked.
 fn read_asked(digits: &[u8]) -> Number
     ensures { λ r. ⌜ r ≡ askedIn (now (digits .entry)) ⌝ }
 {
@@ -157,6 +159,19 @@ fn read_value(header: &[u8]) -> Header
                 word(header, 5),
             ),
         },
+    }
+}
+
+// period FLOW PERIOD LENGTH
+fn read_period(header: &[u8]) -> Header
+    ensures { λ r. ⌜ r ≡ periodOf (now (header .entry)) ⌝ }
+{
+    if count_words(header) != 4 {
+        return wrong_words(4, header);
+    }
+    match read_asked(word(header, 3)) {
+        Number::Bad => Header::Bad(Fault::Period),
+        Number::Is(period) => case_of(Ask::Period { period: period }, 0, word(header, 4)),
     }
 }
 
@@ -275,6 +290,9 @@ fn read_named(name: &[u8], header: &[u8]) -> Header
     }
     if same_bytes(name, b"step") {
         return read_plain(Ask::Step, 3, header);
+    }
+    if same_bytes(name, b"period") {
+        return read_period(header);
     }
     read_room(name, header)
 }

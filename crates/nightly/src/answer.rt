@@ -8,6 +8,7 @@ use field::Mark;
 use flow::StepAnswer;
 use headers::Ask;
 use headers::Making;
+use period::Answer;
 use printing::print_follow;
 use printing::print_numbers;
 use printing::print_refusal;
@@ -27,6 +28,15 @@ fn value_line(flow: &[u8], record: usize, field: usize, file: &[u8]) -> bool {
         Value::Number(n) => print_whole(n),
         Value::Truth(truth) => print_truth(truth),
         Value::Text { from, to } => print_value(b"text", &file[from..to]),
+    }
+}
+
+// Whether a file has a period.
+fn period_line(flow: &[u8], period: usize, file: &[u8]) -> bool {
+    match period::has(flow, file, period) {
+        Answer::Refused(r) => print_refusal(r),
+        Answer::Yes => print_truth(true),
+        Answer::No => print_truth(false),
     }
 }
 
@@ -87,6 +97,7 @@ pub fn answer(ask: Ask, flow: &[u8], fixed: &[u8], body: &[u8], room: &mut [u8])
     match ask {
         Ask::Judge => printing::print_judged(judge::judge(flow, body)),
         Ask::Value { record, field } => value_line(flow, record, field, body),
+        Ask::Period { period } => period_line(flow, period, body),
         Ask::Field { form, mark } => field_line(form, mark, fixed, body),
         Ask::Sum => sum_line(body),
         Ask::Step => step_line(flow, body),

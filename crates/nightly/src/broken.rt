@@ -82,6 +82,7 @@ fn tell_header(fault: HeaderFault, name: &[u8]) {
         HeaderFault::Words { right, came } => tell_words(name, right, came),
         HeaderFault::Record => tell_limit(b"RECORD", b"1,000,000,000"),
         HeaderFault::Field => tell_limit(b"FIELD", b"1,000,000,000"),
+        HeaderFault::Period => tell_limit(b"PERIOD", b"1,000,000,000"),
         HeaderFault::Type => tell(b"TYPE is no type in document 01's spelling"),
         HeaderFault::Mark => tell(b"MARK is none of -, opt and ="),
         HeaderFault::Fixed => tell_limit(b"FIXED", b"1,114,112"),

@@ -6,12 +6,15 @@ use mathlib.Core.List.{List}
 use native.Mathlib.Omega.{arith}
 use lib.Dec.{eqb, leb}
 use lib.ListN.{length}
+use Rattle.text.specs.Characters.{from-to}
+use Rattle.text.specs.Order.{sameBytes}
 use Rattle.text.specs.Rules.{must}
 use Rattle.record.specs.Records.{records, holds, bar}
 use Rattle.place.specs.Places.{recordAt, placeAt, refusalAt, whole}
 use Rattle.place.specs.declared.Refusal.{Refusal}
 use Rattle.place.proofs.Points.{at-zero}
 use Rattle.pointing.specs.Shown.{Placed}
+use Rattle.flow.specs.Letters.{P0012001}
 use Rattle.flow.specs.Publication.{Flow, layoutFor}
 use Rattle.flow.specs.Editions.{Asked, aFlow, noFlow, asked}
 use Rattle.flow.specs.Step.{StepRight}
@@ -29,6 +32,10 @@ use Rattle.value.specs.Value.{isThere, textAt, endOf, asValue, answerIn, fieldV
 use Rattle.value.specs.Value.{paper as valuePaper}
 use Rattle.value.specs.declared.Value.{Value}
 use Rattle.value.specs.declared.Value.the-variants as values
+use Rattle.period.specs.Answer.{yesOrNo, answered, readUpTo, someHas, upTo, hasBy, hasFor, hasPeriod}
+use Rattle.period.specs.Answer.{paper as periodPaper}
+use Rattle.period.specs.declared.Answer.{Answer}
+use Rattle.period.specs.declared.Answer.the-variants as answers
 use Rattle.sheet.specs.Sheets.{tab, made, sheetOf, barLine}
 use Rattle.sheet.specs.Write.{linesEnded, asJudged, fitted, writtenBy, written, Wrote, Reply, done, refused}
 use Rattle.sheet.specs.Write.{paper as transferPaper}
@@ -147,6 +154,41 @@ same-value f r (values.Text from to) e h = let z : _≡_ {A = ℕ} 0 1 = cc in a
 pub valued-placed : (words f : List ℕ) (n k : ℕ) (r : Refusal) → valuePaper f (values.Refused r) ≡ valued (asked words) f n k → Placed bar f r
 unfolding valued
 valued-placed words f n k r e = same-value f r (valueIn (asked words) f n k) e (in-placed f n k (asked words) (asked-placed bar f words))
+
+-- of a period that is asked for
+abbrev PlacedPeriod : List ℕ → Answer → Type 0
+PlacedPeriod f (answers.Refused r) = Placed bar f r
+PlacedPeriod f answers.Yes = Unit
+PlacedPeriod f answers.No = Unit
+
+module _ (f : List ℕ) where
+  yes-or-no : (b : Bool) → PlacedPeriod f (yesOrNo b)
+  yes-or-no true = tt
+  yes-or-no false = tt
+
+  answered-placed : (v : Verdict) (b : Bool) → PlacedPeriod f (answered f v b)
+  answered-placed (verdicts.Accepted n) b = yes-or-no b
+  answered-placed (verdicts.Refused number n k) b = refl
+
+  whole-or-not : (b : Bool) (number : ℕ) (a : Answer) → PlacedPeriod f a → PlacedPeriod f (must b (answers.Refused (whole number)) a)
+  whole-or-not true number a h = h
+  whole-or-not false number a h = whole-placed bar f number
+
+  period-placed : (a : Asked) (p : ℕ) → PlacedAsked bar f a → PlacedPeriod f (hasFor a f p)
+  unfolding hasFor hasBy
+  period-placed (aFlow fl) p h =
+      whole-or-not (sameBytes P0012001 (fl .name)) 22 _
+      (whole-or-not (from-to 1 50 p) 18 _ (answered-placed (readUpTo (layoutFor fl) f p) (someHas p (upTo p (records f)))))
+  period-placed (noFlow r) p h = h
+
+  same-period : (r : Refusal) (a : Answer) → periodPaper (answers.Refused r) ≡ periodPaper a → PlacedPeriod f a → Placed bar f r
+  same-period r (answers.Refused q) e h = cc
+  same-period r answers.Yes e h = let z : _≡_ {A = ℕ} 0 1 = cc in absurd (omega arith)
+  same-period r answers.No e h = let z : _≡_ {A = ℕ} 0 1 = cc in absurd (omega arith)
+
+pub has-placed : (words f : List ℕ) (p : ℕ) (r : Refusal) → periodPaper (answers.Refused r) ≡ hasPeriod (asked words) f p → Placed bar f r
+unfolding hasPeriod
+has-placed words f p r e = same-period f r (hasFor (asked words) f p) e (period-placed f (asked words) p (asked-placed bar f words))
 
 -- of an index
 abbrev PlacedIndex : List ℕ → Indexed → Type 0

@@ -4,7 +4,7 @@ use stream::Loaded;
 use words::Number;
 ghost use Rattle.stream.specs.File.{Loads};
 
-// The greatest RECORD and FIELD.
+// The greatest RECORD, FIELD and PERIOD.
 const ASKED_LIMIT: usize = 1000000000;
 
 // Says what hinders the call.

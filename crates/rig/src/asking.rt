@@ -1,4 +1,4 @@
-// value, field, sum, step, explain: one thing asked.
+// value, period, field, sum, step, explain: one thing asked.
 use crate::arguments::hinder;
 use crate::arguments::load_word;
 use crate::arguments::number_word;
@@ -9,6 +9,8 @@ use field::FieldAnswer;
 use field::FieldType;
 use field::Mark;
 use flow::StepAnswer;
+use period::Answer;
+use place::Refusal;
 use printing::print_numbers;
 use printing::print_refusal;
 use printing::print_truth;
@@ -21,6 +23,8 @@ use value::Value;
 use words::Form;
 use words::Marked;
 use words::Number;
+ghost use Rattle.record.specs.Records.{bar};
+ghost use Rattle.pointing.specs.Shown.{Placed};
 
 // Prints the value of one field of a file.
 fn value_in(flow: &[u8], file: &[u8], record: usize, field: usize) -> Ending {
@@ -57,6 +61,46 @@ pub fn value_of(room: &mut [u8]) -> Ending {
     }
     let size = file.size;
     value_asked(&room[..size])
+}
+
+// Prints a refusal where a period is asked for, the sentence on it, and the byte that it points at.
+fn refuse_period(flow: &[u8], file: &[u8], period: usize, r: Refusal) -> Ending
+    requires { ⌜ Placed bar (now file) r ⌝ }
+{
+    refused(
+        print_refusal(r)
+            && sentences::about_period(flow, file, period, r)
+            && pointing::point(BAR, file, r),
+    )
+}
+
+// Prints whether a period is in a file, as a truth.
+fn period_in(flow: &[u8], file: &[u8], period: usize) -> Ending {
+    match period::has(flow, file, period) {
+        Answer::Refused(r) => refuse_period(flow, file, period, r),
+        Answer::Yes => well(print_truth(true)),
+        Answer::No => well(print_truth(false)),
+    }
+}
+
+// Prints whether the period that word 4 asks for is in a file.
+fn period_asked(file: &[u8]) -> Ending {
+    let Number::Is(period) = number_word(4) else {
+        return hinder(b"PERIOD is a whole number up to 1,000,000,000");
+    };
+    let mut flow = io::large_buffer();
+    let f = os::arg(2, &mut flow);
+    period_in(&flow[..f], file, period)
+}
+
+// period FLOW FILE PERIOD
+pub fn period_of(room: &mut [u8]) -> Ending {
+    let file = load_word(3, room);
+    if !file.read {
+        return Ending::Hindered;
+    }
+    let size = file.size;
+    period_asked(&room[..size])
 }
 
 // sum FILE
@@ -163,13 +207,18 @@ pub fn step_words() -> Ending {
     step_by(&flow[..f], &kinds[..k])
 }
 
+// Says which refusals there are.
+fn no_rule() -> Ending {
+    hinder(b"NUMBER is 1 to 22")
+}
+
 // explain NUMBER
 pub fn explain_word() -> Ending {
     let Number::Is(n) = number_word(2) else {
-        return hinder(b"NUMBER is 1 to 21");
+        return no_rule();
     };
     if !sentences::has_rule(n) {
-        return hinder(b"NUMBER is 1 to 21");
+        return no_rule();
     }
     well(sentences::explain(n))
 }

@@ -10,7 +10,7 @@ use text::same_bytes;
 // Says how the rig is called.
 fn usage() -> Ending {
     stream::tell(
-        b"rig: no such command, or too few or too many words\nusage:\n  rig judge FLOW FILE..\n  rig write FLOW SHEET OUT [--over]\n  rig read FLOW FILE OUT [--over]\n  rig export FLOW FILE OUT [--over]\n  rig import TEXT OUT [--over]\n  rig value FLOW FILE RECORD FIELD\n  rig index FLOW FILE\n  rig field TYPE [MARK] BYTES     as: rig field 'dec(4,1)' opt 5.0, rig field 'text(1)' =Z Z\n  rig sum FILE\n  rig step FLOW KINDS             as: rig step P0138001 ZHDSUB\n  rig explain NUMBER\nFLOW is a flow's name, or in one word its name, a space and an edition, 533 or 711 (none is 533), as: rig judge 'P0133001 711' FILE\n",
+        b"rig: no such command, or too few or too many words\nusage:\n  rig judge FLOW FILE..\n  rig write FLOW SHEET OUT [--over]\n  rig read FLOW FILE OUT [--over]\n  rig export FLOW FILE OUT [--over]\n  rig import TEXT OUT [--over]\n  rig value FLOW FILE RECORD FIELD\n  rig period FLOW FILE PERIOD\n  rig index FLOW FILE\n  rig field TYPE [MARK] BYTES     as: rig field 'dec(4,1)' opt 5.0, rig field 'text(1)' =Z Z\n  rig sum FILE\n  rig step FLOW KINDS             as: rig step P0138001 ZHDSUB\n  rig explain NUMBER\nFLOW is a flow's name, or in one word its name, a space and an edition, 533 or 711 (none is 533), as: rig judge 'P0133001 711' FILE\n",
     );
     Ending::Hindered
 }
@@ -56,6 +56,9 @@ fn file_command(name: &[u8], count: usize, room: &mut [u8]) -> Ending {
     }
     if is_call(name, count, b"value", 6) {
         return asking::value_of(room);
+    }
+    if is_call(name, count, b"period", 5) {
+        return asking::period_of(room);
     }
     if is_call(name, count, b"index", 4) {
         return indexing::index_of(room);

@@ -14,6 +14,7 @@ use Rattle.flow.specs.Editions.{Asked}
 use Rattle.flow.specs.Step as steps
 use Rattle.judge.specs.File as files
 use Rattle.index.specs.Entries as indexes
+use Rattle.period.specs.Answer as periods
 use Rattle.value.specs.Value as values
 use Rattle.sheet.specs.Sheets.{made, sheetOf}
 use Rattle.sheet.specs.Write as writing
@@ -89,6 +90,11 @@ valueCells values.empty = emptyCells
 valueCells (values.number z) = numberCells z
 valueCells (values.truth b) = truthCells b
 valueCells (values.text from to bytes) = textCells from to
+
+-- a period in a file: a yes or no, as a value's
+abbrev pub periodCells : periods.Reply → List ℕ
+periodCells (periods.refused number r f place) = refusalCells number r f place
+periodCells (periods.truth b) = truthCells b
 
 -- judging one field's bytes: a text is all of them
 abbrev pub fieldCells : fields.Reply → List ℕ

@@ -1,10 +1,11 @@
-// The ten public parts under C names. An answer is four numbers in a lent array: include/screen.h says what each cell holds.
+// The eleven public parts under C names. An answer is four numbers in a lent array: include/screen.h says what each cell holds.
 // A flow is asked for by words: its name, or that, a space and an edition.
 use field::FieldType;
 use field::Mark;
 use flow::StepAnswer;
 use index::Indexed;
 use judge::Judged;
+use period::Answer;
 use place::Refusal;
 use sheet::Transfer;
 use value::Value;
@@ -19,9 +20,10 @@ ghost use Rattle.flow.specs.Editions.{asked};
 ghost use Rattle.flow.specs.Step.{paper as stepPaper};
 ghost use Rattle.index.specs.Entries.{paper as indexPaper};
 ghost use Rattle.judge.specs.File.{judged, paper as judgePaper};
+ghost use Rattle.period.specs.Answer.{hasPeriod, paper as periodPaper};
 ghost use Rattle.sheet.specs.Write.{paper as transferPaper};
 ghost use Rattle.value.specs.Value.{valued, paper as valuePaper};
-ghost use Rattle.screen.specs.Numbers.{refusalCells, judgeCells, transferCells, WroteCells, ReadCells, ExportedCells, ImportedCells, flagOf, numberCells, valueCells, fieldCells, fieldAsked, stepCells, Stepped, indexCells, FilledCells};
+ghost use Rattle.screen.specs.Numbers.{refusalCells, judgeCells, transferCells, WroteCells, ReadCells, ExportedCells, ImportedCells, flagOf, numberCells, valueCells, periodCells, fieldCells, fieldAsked, stepCells, Stepped, indexCells, FilledCells};
 
 // A refusal's number, record, field and place.
 fn refusal_cells(r: Refusal) -> [u64; 4]
@@ -131,6 +133,25 @@ pub extern "C" fn screen_value(flow: &[u8], file: &[u8], n: usize, k: usize, ans
     ensures { λ _. ⌜ now (answer .exit) ≡ valueCells (valued (asked (now (flow .entry))) (now (file .entry)) n k) ⌝ }
 {
     *answer = value_cells(value::value_of(flow, file, n, k));
+}
+
+// What is said of a period in a file, as a truth.
+fn period_cells(a: Answer) -> [u64; 4]
+    ensures { λ r. ⌜ r ≡ periodCells (periodPaper a) ⌝ }
+{
+    match a {
+        Answer::Refused(refusal) => refusal_cells(refusal),
+        Answer::Yes => [0, 3, 1, 0],
+        Answer::No => [0, 3, 0, 0],
+    }
+}
+
+// Says whether a file for a flow has a period, and reads no further than it must.
+#[no_mangle]
+pub extern "C" fn screen_period(flow: &[u8], file: &[u8], period: usize, answer: &mut [u64; 4])
+    ensures { λ _. ⌜ now (answer .exit) ≡ periodCells (hasPeriod (asked (now (flow .entry))) (now (file .entry)) period) ⌝ }
+{
+    *answer = period_cells(period::has(flow, file, period));
 }
 
 // The type of a code, with its widths.

@@ -7,12 +7,14 @@ mod found;
 mod heading;
 mod kinds;
 mod naming;
+mod period;
 mod refusals;
 mod say;
 mod step;
 
 pub use ask::about_field;
 pub use found::about_file;
+pub use period::about_period;
 pub use refusals::explain;
 pub use refusals::has_rule;
 pub use refusals::rule;

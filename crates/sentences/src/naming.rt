@@ -1,4 +1,4 @@
-// The sentence on words that ask for no flow that we hold.
+// The sentence on words that ask for no flow that we hold, or for another than the one that is meant.
 use crate::refusals;
 use crate::say;
 use stream::print;

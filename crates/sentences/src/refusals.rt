@@ -6,7 +6,7 @@ ghost use mathlib.Core.Path.{_≡_};
 ghost use Rattle.text.specs.Characters.{from-to};
 
 // The greatest refusal.
-const LAST: usize = 21;
+const LAST: usize = 22;
 
 // The rule that refusal n holds up, 1 to 9.
 fn early_rule(n: usize) -> bool {
@@ -27,7 +27,7 @@ fn early_rule(n: usize) -> bool {
     }
 }
 
-// The rule that refusal n holds up, 10 to 21.
+// The rule that refusal n holds up, 10 to 22.
 fn late_rule(n: usize) -> bool {
     match n {
         10 => print(b"a fixed value is given as it is, and a null field is empty"),
@@ -45,15 +45,16 @@ fn late_rule(n: usize) -> bool {
         16 => print(b"a sheet has no bar: its fields are parted by tabs"),
         17 => print(b"the output has room for the whole result"),
         18 => print(
-            b"the record and field that are asked are there; a width is 1 to 512 for text, 1 to 18 for int, and for dec 2 to 18 and then 1 to one less",
+            b"the record and field that are asked are there; a width is 1 to 512 for text, 1 to 18 for int, and for dec 2 to 18 and then 1 to one less; a period that is asked for is 1 to 50",
         ),
         19 => print(b"the list has room for all entries of the index"),
         20 => print(
             b"comma-separated text is that of RFC 4180: commas part the fields, a carriage return and a line feed (hex 0D 0A) end each line, but may be absent at the last, a field with a comma or a quotation mark stands between quotation marks, and each one in it is doubled; a field has bytes 32 to 126 alone: no tab, no line break",
         ),
-        _ => print(
+        21 => print(
             b"the edition behind a flow and a space is 533 or 711, and 533 where none is named; in 711 SB1 of P0133001 has no market sector, and all else is the same in both",
         ),
+        _ => print(b"a period is asked for in P0012001 and in no other flow"),
     }
 }
 
@@ -64,7 +65,7 @@ pub fn rule(n: usize) -> bool {
 
 // There is a refusal n.
 pub fn has_rule(n: usize) -> bool
-    ensures { λ r. ⌜ r ≡ from-to 1 21 n ⌝ }
+    ensures { λ r. ⌜ r ≡ from-to 1 22 n ⌝ }
 {
     if n < 1 {
         return false;

@@ -23,9 +23,17 @@ part-requires-2 c κs = search needs
 
 returns-2 : tie.Need-returns-2
 returns-2 c =
-    let a = c .before .before .before .args in
-    rw (ne-eqb (a .number) 21 (c .before .if1 .left))
-    (c .part2 .ensures ∙ take-all (length (now (a .words))) (now (a .words)) (omega arith))
+    let a = c .before .before .before .before .args in
+    rw (ne-eqb (a .number) 21 (c .before .before .if1 .left), eq-eqb (a .number) 22 (c .before .if2 .taken)) (c .part2 .ensures)
+
+part-requires-3 : tie.Need-part-requires-3
+part-requires-3 c κs = search needs
+
+returns-3 : tie.Need-returns-3
+returns-3 c =
+    let a = c .before .before .before .before .args in
+    rw (ne-eqb (a .number) 21 (c .before .before .if1 .left), ne-eqb (a .number) 22 (c .before .if2 .left))
+    (c .part3 .ensures ∙ take-all (length (now (a .words))) (now (a .words)) (omega arith))
 
 pub refused-part-spec : {M : Type 1} → statement M
-refused-part-spec = tie.close (tie.spec part-requires returns part-requires-2 returns-2)
+refused-part-spec = tie.close (tie.spec part-requires returns part-requires-2 returns-2 part-requires-3 returns-3)

@@ -93,12 +93,29 @@ returns-5 c = rw (not-judge (c .before .before .before .before .before .before .
 not-step : (c : tie.Else5) → sameBytes (c .before .before .before .before .before .before .before .before .before .before .before .before .before .before .before .before .before .args .name .now) (bytes "step") ≡ false
 not-step c = sym (c .before .same-bytes5 .ensures) ∙ c .if5 .left
 
-read-room-requires : tie.Need-read-room-requires
-read-room-requires c κs = search needs
+slice-aggregate-same-bytes-6 : tie.Need-slice-aggregate-same-bytes-6
+slice-aggregate-same-bytes-6 c = search needs
+
+same-bytes-requires-6 : tie.Need-same-bytes-requires-6
+same-bytes-requires-6 c κs = search needs
+
+read-period-requires : tie.Need-read-period-requires
+read-period-requires c κs = search needs
 
 returns-6 : tie.Need-returns-6
 unfolding caseNamed
-returns-6 c = rw (not-judge (c .before .before .before .before .before .before .before .before .before .before .before .before .before), not-value (c .before .before .before .before .before .before .before .before .before .before), not-field (c .before .before .before .before .before .before .before), not-sum (c .before .before .before .before), not-step (c .before)) (c .read-room .ensures)
+returns-6 c = rw (not-judge (c .before .before .before .before .before .before .before .before .before .before .before .before .before .before .before .before), not-value (c .before .before .before .before .before .before .before .before .before .before .before .before .before), not-field (c .before .before .before .before .before .before .before .before .before .before), not-sum (c .before .before .before .before .before .before .before), not-step (c .before .before .before .before), sym (c .before .before .same-bytes6 .ensures) ∙ c .before .if6 .taken) (c .read-period .ensures)
+
+-- the word is not `period`
+not-period : (c : tie.Else6) → sameBytes (c .before .before .before .before .before .before .before .before .before .before .before .before .before .before .before .before .before .before .before .before .args .name .now) (bytes "period") ≡ false
+not-period c = sym (c .before .same-bytes6 .ensures) ∙ c .if6 .left
+
+read-room-requires : tie.Need-read-room-requires
+read-room-requires c κs = search needs
+
+returns-7 : tie.Need-returns-7
+unfolding caseNamed
+returns-7 c = rw (not-judge (c .before .before .before .before .before .before .before .before .before .before .before .before .before .before .before .before), not-value (c .before .before .before .before .before .before .before .before .before .before .before .before .before), not-field (c .before .before .before .before .before .before .before .before .before .before), not-sum (c .before .before .before .before .before .before .before), not-step (c .before .before .before .before), not-period (c .before)) (c .read-room .ensures)
 
 pub read-named-spec : {M : Type 1} → statement M
 read-named-spec =
@@ -124,5 +141,9 @@ read-named-spec =
     same-bytes-requires-5
     read-plain-requires-3
     returns-5
+    slice-aggregate-same-bytes-6
+    same-bytes-requires-6
+    read-period-requires
+    returns-6
     read-room-requires
-    returns-6)
+    returns-7)

@@ -1,0 +1,9 @@
+pub mod Periods
+pub mod Stops
+pub mod Fronts
+pub mod Reading
+pub mod Flows
+pub mod Early
+pub mod OneKind
+pub mod Rising
+pub mod Accepted
