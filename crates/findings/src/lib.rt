@@ -1,4 +1,5 @@
-// What a sentence on a refusal names, found in the bytes that are refused. In a file bars part the fields, in a sheet tabs.
+// What a sentence on a refusal names, found in the bytes that are refused, and which refusals there are. In a file bars part
+// the fields, in a sheet tabs.
 use place::Refusal;
 use record::Cursor;
 use record::FEED;
@@ -7,6 +8,7 @@ ghost use mathlib.Core.Path.{_≡_};
 ghost use Prim.Native.Nat.{ℕ, _+_};
 ghost use mathlib.Core.List.{List};
 ghost use lib.ListN.{length};
+ghost use Rattle.text.specs.Characters.{from-to};
 ghost use Rattle.record.specs.Records.{field};
 ghost use Rattle.layout.specs.Layout.{row};
 ghost use Rattle.layout.specs.Numbers.{layoutOf};
@@ -122,4 +124,17 @@ pub fn field_count(t: &[u32], kind: usize) -> usize
 {
     let rules = layout::rules_of(t, kind);
     rules.count + 1
+}
+
+// The greatest refusal.
+const LAST: usize = 22;
+
+// There is a refusal n.
+pub fn is_refusal(n: usize) -> bool
+    ensures { λ r. ⌜ r ≡ from-to 1 22 n ⌝ }
+{
+    if n < 1 {
+        return false;
+    }
+    n <= LAST
 }

@@ -217,7 +217,7 @@ pub fn explain_word() -> Ending {
     let Number::Is(n) = number_word(2) else {
         return no_rule();
     };
-    if !sentences::has_rule(n) {
+    if !findings::is_refusal(n) {
         return no_rule();
     }
     well(sentences::explain(n))

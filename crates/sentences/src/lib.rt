@@ -16,6 +16,5 @@ pub use ask::about_field;
 pub use found::about_file;
 pub use period::about_period;
 pub use refusals::explain;
-pub use refusals::has_rule;
 pub use refusals::rule;
 pub use step::about_stop;

@@ -2,11 +2,6 @@
 use crate::calendar;
 use crate::say;
 use stream::print;
-ghost use mathlib.Core.Path.{_≡_};
-ghost use Rattle.text.specs.Characters.{from-to};
-
-// The greatest refusal.
-const LAST: usize = 22;
 
 // The rule that refusal n holds up, 1 to 9.
 fn early_rule(n: usize) -> bool {
@@ -61,16 +56,6 @@ fn late_rule(n: usize) -> bool {
 // The rule that refusal n holds up.
 pub fn rule(n: usize) -> bool {
     if n < 10 { early_rule(n) } else { late_rule(n) }
-}
-
-// There is a refusal n.
-pub fn has_rule(n: usize) -> bool
-    ensures { λ r. ⌜ r ≡ from-to 1 22 n ⌝ }
-{
-    if n < 1 {
-        return false;
-    }
-    n <= LAST
 }
 
 // The rule of a refusal on a line of its own; that of ranges with the calendar's.
