@@ -1,4 +1,5 @@
 // The bench: judges one file on standard input, and prints the verdict on one line.
+#![tactic(auto)]
 ghost use Rattle.std.specs.Prelude.{◌≡◌};
 ghost use Rattle.judge.specs.File.{paper};
 ghost use Rattle.bench.specs.Bench.{benched};

@@ -1,4 +1,6 @@
 // The checksum of records, as the footer has it.
+#![tactic(auto)]
+
 ghost use Rattle.std.specs.Prelude.{◌≡◌, ◌+◌, ◌≤◌, ◌<◌, length, drop, get_or};
 ghost use Rattle.record.specs.Records.{barred};
 ghost use Rattle.checksum.specs.Checksum.{word, piece_at, add_record, checksum_of};

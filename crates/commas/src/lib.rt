@@ -1,5 +1,6 @@
 // What is said to people about a comma-separated text that is refused, before and behind the rule: the line, and what was found.
 // Each is a part of one sentence on standard output; its function says whether all of it was written.
+#![tactic(auto)]
 mod stop;
 
 use place::Refusal;

@@ -1,7 +1,7 @@
 -- A file exported and the text imported again gives the file's sheet. Assumes nothing.
 use Prim.Native.Nat.{ℕ, suc, ◌+◌, ◌-◌, ◌≤◌, ◌<◌}
 use mathlib.Core.Path.{◌≡◌, refl, sym, ap, ap₂, ◌∙◌}
-use mathlib.Core.Bool.{Bool, true, false, cond, ◌||◌, false≢true, or_true}
+use mathlib.Core.Bool.{Bool, true, false, cond, ◌||◌, false≢true, or-true}
 use mathlib.Core.List.{List, [], ◌∷◌, ◌++◌, map}
 use native.Mathlib.Omega.{arith}
 use lib.Dec.{eqb, leb, lit≤}
@@ -45,7 +45,7 @@ within lo hi lo' hi' b h k e =
     rw (le-leb lo' b (omega arith), le-leb b hi' (omega arith))
 
 or_last : (a b c : Bool) → c ≡ true → (a || b || c) ≡ true
-or_last a b c e = rw e (or_true (a || b))
+or_last a b c e = rw e (or-true (a || b))
 
 or_both : (a b c : Bool) → c ≡ true → (a || (b || c)) ≡ true
 or_both true b c e = refl

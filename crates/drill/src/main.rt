@@ -1,4 +1,5 @@
 // The drill: spoils a good file, one byte at a time, and has each spoiled file judged.
+#![tactic(auto)]
 mod drill;
 
 ghost use Rattle.std.specs.Prelude.{◌+◌, ◌≤◌, ◌<◌, ◌^◌, length};

@@ -1,7 +1,7 @@
 -- What some words ask for, test by test; and whatever they ask for is proper. Assumes nothing.
 use Prim.Native.Nat.{ℕ, zero, suc, ◌+◌, ◌-◌, ◌≤◌, ◌<◌}
 use mathlib.Core.Path.{◌≡◌, refl, sym, ap, ◌∙◌, subst}
-use mathlib.Core.Bool.{Bool, true, false, cond, not, ◌&&◌, or_true, and-false, false≢true}
+use mathlib.Core.Bool.{Bool, true, false, cond, not, ◌&&◌, or-true, and-false, false≢true}
 use mathlib.Core.List.{List, [], ◌∷◌, ◌++◌, map, append_assoc}
 use native.Mathlib.Omega.{arith}
 use lib.Dec.{T, eqb}
@@ -82,10 +82,10 @@ in_edition n edition = must (is_edition edition) (no_flow (whole 21)) (a_flow (f
 
 module _ (n : ℕ) (edition : List ℕ) where
   pub newer_third : same_bytes E711 edition ≡ true → n ≡ 3 → a_flow (flow_at 7) ≡ in_edition n edition
-  newer_third e is = rw (e, or_true (same_bytes E533 edition), eq-eqb n 3 is)
+  newer_third e is = rw (e, or-true (same_bytes E533 edition), eq-eqb n 3 is)
 
   pub newer_other : same_bytes E711 edition ≡ true → (n ≡ 3 → ⊥) → a_flow (flow_at n) ≡ in_edition n edition
-  newer_other e h = rw (e, or_true (same_bytes E533 edition), ne_eqb n 3 h)
+  newer_other e h = rw (e, or-true (same_bytes E533 edition), ne_eqb n 3 h)
 
   pub older : same_bytes E711 edition ≡ false → same_bytes E533 edition ≡ true → a_flow (flow_at n) ≡ in_edition n edition
   older e f = rw (e, f)

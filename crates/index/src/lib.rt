@@ -1,4 +1,5 @@
 // An index beside the file: entries in a lent list, one for each record that may have children.
+#![tactic(auto)]
 ghost use Rattle.std.specs.Prelude.{◌≡◌, cond, ◌++◌, ◌<◌, ◌≤◌, ◌+◌, ◌-◌, ◌*◌, ◌^◌, length, set, take, drop};
 ghost use Rattle.layout.specs.Numbers.{layout_of};
 ghost use Rattle.flow.specs.Editions.{asked};

@@ -6,7 +6,7 @@ use native.Mathlib.Omega.{arith}
 use lib.Dec.{leb}
 use borrow.Author.Tests.{lt-leb, le-leb}
 use lib.ListN.{length, get_or, take, drop, length-append, length-take, replicate}
-use lib.Seq.{drop-drop, take-take, take_nil, append_snoc}
+use lib.Seq.{drop-drop, take-take, take-nil, append_snoc}
 use Rattle.text.specs.Rules.{must}
 use Rattle.record.specs.Records.{records, barred, IsPart, bar}
 use Rattle.checksum.specs.Checksum.{add_record, checksum}

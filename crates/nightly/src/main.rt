@@ -1,4 +1,5 @@
 // Many cases in one stream. A case is a header line and a body; each is answered by one line.
+#![tactic(auto)]
 mod answer;
 mod broken;
 mod force;

@@ -1,6 +1,6 @@
 -- An int of right form is the only spelling of its number, and the digits of a number are that spelling. Assumes nothing.
 use mathlib.Core.Path.{◌≡◌, refl, sym, ◌∙◌, ap}
-use mathlib.Core.Bool.{Bool, true, false, not, cond, ◌&&◌, ◌||◌, and-true, or_true, false≢true}
+use mathlib.Core.Bool.{Bool, true, false, not, cond, ◌&&◌, ◌||◌, and-true, or-true, false≢true}
 use mathlib.Core.List.{List, [], ◌∷◌, ◌++◌}
 use Prim.Native.Nat.{ℕ, zero, suc, ◌+◌, ◌-◌, ◌*◌, ◌/◌, ◌%◌, ◌^◌, ◌≤◌, ◌<◌}
 use native.Mathlib.Nat.{div-add-mod', div-lt_iff_lt-mul, mod-lt, pow-suc}
@@ -142,7 +142,7 @@ plain_right zero d r =
     let one : length d ≡ 1 = omega (arith, r.some, r.short 0 (lit< tt)) in
     plain_by d r.some (rw (eq-eqb (length d) 1 one)) r.digits
 plain_right (suc n) d r =
-    plain_by d r.some (rw (ne_eqb (get_or d 0 0) 48 (r.first (omega arith)), or_true (eqb (length d) 1))) r.digits
+    plain_by d r.some (rw (ne_eqb (get_or d 0 0) 48 (r.first (omega arith)), or-true (eqb (length d) 1))) r.digits
 
 -- the digits of n
 module _ (n : ℕ) where

@@ -1,4 +1,6 @@
 // Digits, signs and the numbers that they spell; the calendar.
+#![tactic(auto)]
+
 ghost use Rattle.std.specs.Prelude.{◌≡◌, ◌<◌, ◌≤◌, ◌^◌, ◌+◌, ◌*◌, length};
 ghost use Rattle.text.specs.Characters.{all, is_digit};
 ghost use Rattle.number.specs.Numbers.{minus as minus_of, unsigned as unsigned_of, is_zero, signed as signed_of, spelled};

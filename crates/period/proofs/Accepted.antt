@@ -1,7 +1,7 @@
 -- For an accepted file the answer equals the full reading's (document 02, C-17). Assumes nothing.
 use Prim.Native.Nat.{ℕ, ◌≤◌}
 use mathlib.Core.Path.{◌≡◌, refl, sym, ap, ◌∙◌}
-use mathlib.Core.Bool.{Bool, true, false, ◌||◌, or_true, or-false, false≢true}
+use mathlib.Core.Bool.{Bool, true, false, ◌||◌, or-true, or-false, false≢true}
 use mathlib.Core.Logic.{◌⊎◌, inl, inr, ◌↔◌}
 use mathlib.Core.List.{List, [], ◌∷◌, ◌++◌}
 use native.Mathlib.Omega.{arith}
@@ -69,7 +69,7 @@ module _ (p : ℕ) where
 
   one_has : (before : List (List ℕ)) (r : List ℕ) (after : List (List ℕ)) → period_in r ≡ p → some_has p (before ++ r ∷ after) ≡ true
   unfolding some_has
-  one_has before r after e = has_join before (r ∷ after) ∙ ap (λ (b : Bool). some_has p before || b) here ∙ or_true (some_has p before)
+  one_has before r after e = has_join before (r ∷ after) ∙ ap (λ (b : Bool). some_has p before || b) here ∙ or-true (some_has p before)
     where
       here : some_has p (r ∷ after) ≡ true
       here = rw (eq-eqb p (period_in r) (sym e))

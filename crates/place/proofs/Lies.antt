@@ -5,7 +5,7 @@ use mathlib.Core.List.{List, [], ◌∷◌}
 use native.Mathlib.Decide.{dec_lt}
 use native.Mathlib.Omega.{arith}
 use lib.ListN.{length, take, drop, get_or, length-take, length-drop}
-use lib.Seq.{drop-drop, take-take, take_nil, take-length}
+use lib.Seq.{drop-drop, take-take, take-nil, take-length}
 use Rattle.record.specs.Records.{records, fields, run, extent, IsPart}
 use Rattle.record.proofs.Runs.{run_le, records_first, fields_last, fields_more}
 use Rattle.record.proofs.Cutting.{records_le, part_within}
@@ -18,7 +18,7 @@ drop_take zero n s =
 drop_take (suc a) zero s =
     let q : 0 - suc a ≡ 0 = omega arith in
     rw q
-drop_take (suc a) (suc n) [] = sym (take_nil (suc n - suc a))
+drop_take (suc a) (suc n) [] = sym (take-nil (suc n - suc a))
 drop_take (suc a) (suc n) (x ∷ s) =
     let q : suc n - suc a ≡ n - a = omega arith in
     rw q (drop_take a n s)

@@ -1,4 +1,6 @@
 // A refusal, and the byte of a file or a sheet that it points at.
+#![tactic(auto)]
+
 ghost use Rattle.std.specs.Prelude.{◌≡◌};
 ghost use Rattle.place.specs.Places.{place_at, refusal_at, whole as whole_of};
 

@@ -1,4 +1,5 @@
 // The byte that a refusal points at, shown to people: its place in decimal and hex, its record, and a mark under it.
+#![tactic(auto)]
 ghost use Rattle.std.specs.Prelude.{◌≡◌, map, ◌+◌, ◌≤◌, min, length, take};
 ghost use Rattle.io.specs.Counts.{IsPrefixLen};
 ghost use Rattle.pointing.specs.Hex.{capital_of, IsHex};

@@ -1,4 +1,5 @@
 // Lines of words parted by tabs on standard output, each made in a local array and written by one call.
+#![tactic(auto)]
 ghost use Rattle.std.specs.Prelude.{◌≡◌, ◌≤◌, nat_abs};
 
 use judge::Judged;

@@ -1,5 +1,6 @@
 // The rig: one program for people at the bench. It prints the answer's line and, for a refusal, a
 // sentence on it and the byte that it points at. What hinders a call is said on standard error.
+#![tactic(auto)]
 mod arguments;
 mod asking;
 mod call;

@@ -1,5 +1,6 @@
 // The twelve public parts under C names. An answer is four numbers in a lent array, that about a record in force eight:
 // include/screen.h says what each cell holds. A flow is asked for by words: its name, or that, a space and an edition.
+#![tactic(auto)]
 ghost use Rattle.std.specs.Prelude.{◌≡◌, List, ℕ, length};
 ghost use Rattle.checksum.specs.Checksum.{checksum_of};
 ghost use Rattle.field.specs.Judge.{marked};

@@ -1,7 +1,7 @@
 -- What an accepted file is: lines of text characters, so without a tab, and a footer that is the made one. Assumes nothing.
 use Prim.Native.Nat.{ℕ, ◌+◌, ◌-◌, ◌≤◌, ◌<◌}
 use mathlib.Core.Path.{◌≡◌, refl, sym, ap, ◌∙◌}
-use mathlib.Core.Bool.{Bool, true, false, cond, not, false≢true, or_true}
+use mathlib.Core.Bool.{Bool, true, false, cond, not, false≢true, or-true}
 use mathlib.Core.List.{List, [], ◌∷◌, ◌++◌}
 use native.Mathlib.Omega.{arith}
 use lib.Dec.{eqb, leb}
@@ -154,6 +154,6 @@ feed_passes l f n some short p =
       last = p.last;
       checked = ap (checked_from bar l []) same ∙ p.checked;
       closes = ap (λ (rs : List (List ℕ)). is_footer l (last_kind bar l rs)) same ∙ p.closes;
-      feed = rw (ends_go f (ends_in_feed f) refl) (or_true (not l.feed));
+      feed = rw (ends_go f (ends_in_feed f) refl) (or-true (not l.feed));
       count = ap length same ∙ p.count;
     }

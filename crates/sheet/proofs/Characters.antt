@@ -1,7 +1,7 @@
 -- Every field of a record that passes is of text characters: so are all types of field, and the names of the kinds. Assumes nothing.
 use Prim.Native.Nat.{ℕ, suc, ◌+◌, ◌-◌, ◌<◌}
 use mathlib.Core.Path.{◌≡◌, refl, sym, ap, ◌∙◌}
-use mathlib.Core.Bool.{Bool, true, false, cond, not, ◌&&◌, ◌||◌, false≢true, or_true}
+use mathlib.Core.Bool.{Bool, true, false, cond, not, ◌&&◌, ◌||◌, false≢true, or-true}
 use mathlib.Core.List.{List, [], ◌∷◌, ◌++◌}
 use native.Mathlib.Omega.{arith}
 use lib.Dec.{eqb, ltb}
@@ -40,7 +40,7 @@ text_record r = all (all is_text) (fields bar r)
 form_go : (nul emp may form range mark : Bool) (v : FieldAnswer)
     → refusal_of (cond nul (must emp (Refused 10) Empty) (cond emp (must may (Refused 7) Empty) (must form (Refused 8) (must range (Refused 9) (must mark (Refused 10) v))))) ≡ 0
     → (form || emp) ≡ true
-form_go nul true may form range mark v e = or_true form
+form_go nul true may form range mark v e = or-true form
 form_go true false may form range mark v e = absurd (omega arith)
 form_go false false may true range mark v e = refl
 form_go false false may false range mark v e = absurd (omega arith)

@@ -1,7 +1,7 @@
 -- The made file: its records, its length, and what the reader says of it. Assumes nothing.
 use Prim.Native.Nat.{ℕ, suc, ◌+◌, ◌-◌, ◌^◌, ◌≤◌, ◌<◌}
 use mathlib.Core.Path.{◌≡◌, refl, sym, ap, ◌∙◌}
-use mathlib.Core.Bool.{Bool, true, false, not, or_true}
+use mathlib.Core.Bool.{Bool, true, false, not, or-true}
 use mathlib.Core.List.{List, [], ◌∷◌, ◌++◌, map, append_assoc}
 use native.Mathlib.Omega.{arith}
 use lib.ListN.{length, get_or, length-append, length-map}
@@ -132,7 +132,7 @@ module _ (l : Layout) (proper : ProperFooter l) (sheet : List ℕ) (short : leng
       ap length (records_made sheet ends) ∙ length-append (bars sheet) (foot sheet ∷ []) ∙ ap (λ (m : ℕ). m + 1) bars_count in
       let last : last_kind bar l (records (made sheet)) ≡ last_row l =
       ap (last_kind bar l) (records_made sheet ends) ∙ last_snoc bar l (bars sheet) (foot sheet) ∙ foot_kind l proper n sum few sum_few in
-      rw (many, last, made_ends sheet, foot_last l proper n sum few sum_few, or_true (not l.feed))
+      rw (many, last, made_ends sheet, foot_last l proper n sum few sum_few, or-true (not l.feed))
 
   settled : (v : Verdict) (t : Bool) (m : ℕ) → finish (finish v (at_record m (must t (Fault 5 1) Fine) (Accepted m))) (Accepted m) ≡ finish v (must t (Refused 5 m 1) (Accepted m))
   settled (Accepted k) true m = refl

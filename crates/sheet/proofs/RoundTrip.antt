@@ -1,7 +1,7 @@
 -- Sheets there and back: the second half of demand 2, and that there is one answer. Assumes nothing.
 use Prim.Native.Nat.{ℕ, suc, ◌+◌, ◌-◌, ◌≤◌, ◌<◌}
 use mathlib.Core.Path.{◌≡◌, refl, sym, ap, ◌∙◌}
-use mathlib.Core.Bool.{Bool, true, false, not, or_true}
+use mathlib.Core.Bool.{Bool, true, false, not, or-true}
 use mathlib.Core.Logic.{◌↔◌}
 use mathlib.Core.List.{List, [], ◌∷◌, ◌++◌, map, append_assoc}
 use native.Mathlib.Omega.{arith}
@@ -122,13 +122,13 @@ sheet_back a sheet room n b e =
 
 -- lines joined are ended
 ends_before : (r s : List ℕ) → lines_ended s ≡ true → lines_ended (r ++ 0x0A ∷ s) ≡ true
-ends_before r [] e = rw (ends_so r) (or_true (eqb (length (r ++ 0x0A ∷ [])) 0))
+ends_before r [] e = rw (ends_so r) (or-true (eqb (length (r ++ 0x0A ∷ [])) 0))
 ends_before r (b ∷ s) e =
     let here : suc (length s) - 1 ≡ length s = omega arith in
     let last : eqb (get_or (b ∷ s) (length s) 0) 0x0A ≡ true = rw (ne_eqb (suc (length s)) 0 (λ q. omega arith), here) at e in
     let there : length (r ++ 0x0A ∷ b ∷ s) - 1 ≡ length r + suc (length s) = omega (arith, length-append r (0x0A ∷ b ∷ s)) in
     let feed : ends_in_feed (r ++ 0x0A ∷ b ∷ s) ≡ true = rw (there, get_or-append-add r (0x0A ∷ b ∷ s) (suc (length s)) 0) last in
-    rw feed (or_true (eqb (length (r ++ 0x0A ∷ b ∷ s)) 0))
+    rw feed (or-true (eqb (length (r ++ 0x0A ∷ b ∷ s)) 0))
 
 joined_ends : (rs : List (List ℕ)) → lines_ended (joined rs) ≡ true
 unfolding joined

@@ -1,7 +1,7 @@
 -- Where the last record of a file starts: what stands before it is all records but the last, each with its line feed. Assumes nothing.
 use Prim.Native.Nat.{ℕ, suc, ◌-◌, ◌≤◌, ◌<◌}
 use mathlib.Core.Path.{◌≡◌, refl, sym, ap, ◌∙◌}
-use mathlib.Core.Bool.{Bool, true, false, cond, or_true}
+use mathlib.Core.Bool.{Bool, true, false, cond, or-true}
 use mathlib.Core.List.{List, [], ◌∷◌, ◌++◌}
 use native.Mathlib.Omega.{arith}
 use lib.Dec.{eqb}
@@ -70,7 +70,7 @@ module _ (f : List ℕ) where
   start_found i some within e one =
       let long : length (take i f) ≡ i = length-take-le i f within in
       let feed : ends_in_feed (take i f) ≡ true = rw (long, get_or-take i f (i - 1) 0 (omega arith)) (eq-eqb (get_or f (i - 1) 0) 0x0A e) in
-      front_go i (rw feed (or_true (eqb (length (take i f)) 0))) one
+      front_go i (rw feed (or-true (eqb (length (take i f)) 0))) one
 
   -- or it is the only one
   pub start_first : length (records f) ≡ 1 → joined (but_last (records f)) ≡ []

@@ -1,5 +1,6 @@
 // Standard input, whole or through a lent window, files by name, bytes on standard output, sentences on
 // standard error, and how a run ends. Nothing is lost in silence.
+#![tactic(auto)]
 mod calls;
 mod complaint;
 mod ending;

@@ -1,4 +1,5 @@
 // Stored vectors: the checksums of fixed bytes, one a line, held to the file `stdout`.
+#![tactic(auto)]
 use libc::STDOUT_FILENO;
 
 // A checksum as the number that is printed.

@@ -1,6 +1,6 @@
 -- What the classes of bytes say of them. Assumes nothing.
 use mathlib.Core.Path.{◌≡◌, refl, sym, ◌∙◌, ap}
-use mathlib.Core.Bool.{Bool, true, false, cond, ◌&&◌, or_true, and-true}
+use mathlib.Core.Bool.{Bool, true, false, cond, ◌&&◌, or-true, and-true}
 use mathlib.Core.List.{List}
 use Prim.Native.Nat.{ℕ, zero, suc, ◌+◌, ◌<◌, ◌≤◌}
 use native.Mathlib.Omega.{arith}
@@ -19,7 +19,7 @@ text_class false false h = refl
 
 text_is : (b : ℕ) → is_text b ≡ ltb (class_of b) 2
 unfolding class_of is_text
-text_is b = text_class (is_digit b) (is_text b) (λ e. rw (e, or_true))
+text_is b = text_class (is_digit b) (is_text b) (λ e. rw (e, or-true))
 
 -- what a pass that ors classes knows after i bytes
 abbrev pub Seen : List ℕ → ℕ → ℕ → Type 0

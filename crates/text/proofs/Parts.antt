@@ -4,11 +4,11 @@ use mathlib.Core.Path.{◌≡◌, sym, ◌∙◌}
 use mathlib.Core.List.{List, []}
 use native.Mathlib.Omega.{arith}
 use lib.ListN.{length, take, drop, drop_of_length-le, length-drop}
-use lib.Seq.{take_nil, take_all}
+use lib.Seq.{take-nil, take_all}
 
 module _ (s : List ℕ) (a n : ℕ) where
   pub part_past : length s ≤ a → [] ≡ take n (drop a s)
-  part_past h = rw (drop_of_length-le s h, take_nil)
+  part_past h = rw (drop_of_length-le s h, take-nil)
 
   pub part_rest : length s - a ≤ n → take (length s - a) (drop a s) ≡ take n (drop a s)
   part_rest h =

@@ -1,4 +1,6 @@
 // The characters of text: their classes, when two texts are the same, and which stands first.
+#![tactic(auto)]
+
 ghost use Rattle.std.specs.Prelude.{◌≡◌, take, drop};
 ghost use Rattle.text.specs.Characters.{is_text, all, IsClassTable};
 ghost use Rattle.text.specs.Order.{same_bytes, number_order, text_order};

@@ -1,5 +1,6 @@
 // The viewer: lends a list of eight entries for the index of stored files, as a caller in Rattle does. What is said of each file comes on
 // a line, and where the list is filled its entries come behind, one a line; all is held to the file `stdout`.
+#![tactic(auto)]
 ghost use Rattle.std.specs.Prelude.{◌≡◌, ◌≤◌, replicate};
 ghost use Rattle.index.specs.Entries.{listed};
 ghost use Rattle.flow.specs.Editions.{asked};
