@@ -1,6 +1,7 @@
 // What is said to people about a refusal: where it is, the rule, what was found and what would be right.
 // Each sentence is one line on standard output; its function says whether all of it was written.
 #![tactic(auto)]
+
 mod ask;
 mod calendar;
 mod force;
