@@ -7,7 +7,7 @@ use libc::STDOUT_FILENO;
 const CLOSING: i32 = 3;
 
 // All is well; or the answer is a refusal; or something hindered the run, and standard error says what.
-#[derive(Drop)]
+#[derive(Clone, Copy)]
 pub enum Ending {
     Well,
     Refused,

@@ -6,7 +6,7 @@ use crate::complaint::{complain_of, complain_of_input};
 use libc::STDIN_FILENO;
 
 // Whether a file was read, and how many bytes of it.
-#[derive(Drop)]
+#[derive(Clone, Copy)]
 pub struct Loaded {
     pub read: bool,
     pub size: usize,

@@ -7,7 +7,7 @@ use crate::complaint::complain_of_input;
 use libc::STDIN_FILENO;
 
 // The bytes of a window that are read and not used yet: those from `from` up to `to`.
-#[derive(Drop)]
+#[derive(Clone, Copy)]
 pub struct Unread {
     pub from: usize,
     pub to: usize,
@@ -15,7 +15,7 @@ pub struct Unread {
 
 // What a read of standard input left: more unread bytes; or no more of them, since the input has ended
 // or the window is full; or it failed.
-#[derive(Drop)]
+#[derive(Clone, Copy)]
 pub enum Reading {
     Came(Unread),
     Ended(Unread),
