@@ -30,8 +30,8 @@ use Rattle.sheet.specs.Write.{written_by, written}
 use Rattle.sheet.specs.Read.{read_to}
 use Rattle.rfc4180.specs.Rfc.{textdata}
 use Rattle.rfc4180.specs.Walk.{next_of, given_of, stop_at, lines_from, sheet_from}
-use Rattle.csv.specs.Export.{doubled, field_of, text_of, export_of, exported}
-use Rattle.csv.proofs.Computed.{computed_through, computed as imported}
+use Rattle.csv_text.specs.Export.{doubled, field_of, text_of, export_of, exported}
+use Rattle.csv_text.proofs.Computed.{computed_through, computed as imported}
 use Rattle.index.specs.Entries.{kinds_by, some_is, may_head, heads_in, last_of, parent_of, children_from, parent_entry, entries_from, indexed_by, list_by, indexed, listed}
 use Rattle.period.specs.Answer.{period_of, period_in, some_stops, up_to, some_has, read_up_to, has_by, has_for, has_period}
 use Rattle.resubmission.specs.Rows.{first_free, id_field, date_field, last_sb1, rows_from, row_at}

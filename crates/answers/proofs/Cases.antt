@@ -23,8 +23,8 @@ use Rattle.sheet.specs.Write as sheet
 use Rattle.sheet.specs.Read.{read_to}
 use Rattle.sheet.specs.declared.Transfer.{Transfer}
 use Rattle.rfc4180.specs.Walk.{at_line, sheet_from}
-use Rattle.csv.specs.Export.{export_of, exported}
-use Rattle.csv.proofs.Computed.{computed as imported}
+use Rattle.csv_text.specs.Export.{export_of, exported}
+use Rattle.csv_text.proofs.Computed.{computed as imported}
 use Rattle.index.specs.Entries.{indexed, listed}
 use Rattle.index.specs.Entries as index
 use Rattle.index.specs.declared.Entry.{Entry}

@@ -7,7 +7,7 @@ use rfc4180::{AFTER_RETURN, AT_LINE, IN_QUOTES, PLAIN, QUOTE, RETURN, STOPPED};
 
 // What stops a line: a tab; a line feed or a carriage return without the other; a byte that no text has; a quotation mark inside
 // a field that is not quoted; a byte behind a closing one; one that is not closed. Or nothing does.
-#[derive(Drop)]
+#[derive(Clone, Copy)]
 pub enum Fault {
     Tab,
     Feed,
@@ -20,7 +20,7 @@ pub enum Fault {
 }
 
 // The fault, and the place of the byte that has it.
-#[derive(Drop)]
+#[derive(Clone, Copy)]
 pub struct Stop {
     pub fault: Fault,
     pub at: usize,

@@ -7,14 +7,14 @@ use judge::Judged;
 use stream::{tell, tell_number};
 
 // Every how many places the file is spoiled, and by every how many of the other bytes.
-#[derive(Drop)]
+#[derive(Clone, Copy)]
 pub struct Plan {
     pub places: usize,
     pub bytes: usize,
 }
 
 // How many spoiled files were refused, and how many passed; and whether each that passed was printed.
-#[derive(Drop)]
+#[derive(Clone, Copy)]
 pub struct Tally {
     pub refused: u64,
     pub passed: u64,

@@ -18,28 +18,28 @@ use record::{FieldCursor, FieldStep, Found};
 use text::Order;
 
 // What is wrong with a record, or nothing.
-#[derive(Drop)]
+#[derive(Clone, Copy)]
 pub enum Check {
     Fine,
     Fault { number: usize, field: usize },
 }
 
 // Where some bytes start and end.
-#[derive(Drop)]
+#[derive(Clone, Copy)]
 pub struct Span {
     pub from: usize,
     pub to: usize,
 }
 
 // What is wrong with the fields of a record, or the place of its key in it.
-#[derive(Drop)]
+#[derive(Clone, Copy)]
 pub enum Shape {
     Wrong { number: usize, field: usize },
     Right(Span),
 }
 
 // A summary of the records passed: how many, the kind of the last, and their checksum.
-#[derive(Drop)]
+#[derive(Clone, Copy)]
 pub struct State {
     pub count: usize,
     pub last: usize,
@@ -47,7 +47,7 @@ pub struct State {
 }
 
 // A record that passes, with the state after it and the place of its key in it; or what is wrong with it.
-#[derive(Drop)]
+#[derive(Clone, Copy)]
 pub enum Outcome {
     Pass {
         next: State,

@@ -14,7 +14,7 @@ use number::Spelt;
 use text::Order;
 
 // The types of fields, with their widths.
-#[derive(Drop)]
+#[derive(Clone, Copy)]
 pub enum FieldType {
     Text(usize),
     Int(usize),
@@ -27,7 +27,7 @@ pub enum FieldType {
 }
 
 // What stands beside a type; the bytes of a fixed value are lent beside it.
-#[derive(Drop)]
+#[derive(Clone, Copy)]
 pub enum Mark {
     Bare,
     Opt,
@@ -35,7 +35,7 @@ pub enum Mark {
 }
 
 // What is said of a field: a refusal by its number, or a value. The value Text is the field's own bytes.
-#[derive(Drop)]
+#[derive(Clone, Copy)]
 pub enum FieldAnswer {
     Refused(u8),
     Empty,

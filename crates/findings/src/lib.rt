@@ -16,7 +16,7 @@ use place::Refusal;
 use record::{Cursor, FEED, Step};
 
 // The part of a date that the calendar does not have.
-#[derive(Drop)]
+#[derive(Clone, Copy)]
 pub enum Missing {
     Year,
     Month,
@@ -62,7 +62,7 @@ pub fn is_footer_line(t: &[u32], sep: u8, sheet: &[u8], n: usize) -> bool
 }
 
 // Where some bytes of a file stand, and how many there are.
-#[derive(Drop)]
+#[derive(Clone, Copy)]
 pub struct Span {
     from: usize,
     len: usize,

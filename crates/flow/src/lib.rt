@@ -16,14 +16,14 @@ ghost use Rattle.flow.specs.Step.{kinds_in, Lists, StepRight};
 use place::Refusal;
 
 // A flow as data: its numbers, and the bytes of its fixed values. To be copied once into locals and lent.
-#[derive(Drop)]
+#[derive(Clone, Copy)]
 pub struct Table {
     pub numbers: [u32; 110],
     pub fixed: [u8; 16],
 }
 
 // What a caller's words ask for: a flow, by its number, or a refusal.
-#[derive(Drop)]
+#[derive(Clone, Copy)]
 pub enum Named {
     Flow(usize),
     Refused(Refusal),
@@ -140,7 +140,7 @@ pub fn table_of(n: usize) -> Table
 }
 
 // Where a walk of a list of kinds by a table came to: the place where it stopped, counted from 1, or the last row.
-#[derive(Drop)]
+#[derive(Clone, Copy)]
 enum Walked {
     Stopped(usize),
     Through(usize),
@@ -204,7 +204,7 @@ fn put_followers(t: &[u32], last: usize, out: &mut [u8]) -> usize
 }
 
 // The step's answer: a refusal; the place, from 1, where the list stopped; or how many kinds may follow and if it is complete.
-#[derive(Drop)]
+#[derive(Clone, Copy)]
 pub enum StepAnswer {
     Refused(Refusal),
     Stopped(usize),

@@ -19,7 +19,7 @@ const ASKED_LIMIT: usize = 1000000000;
 const ENTRIES_LIMIT: usize = 8192;
 
 // What is made in the room of a case: a file from a sheet, a sheet from a file, a text from a file, a sheet from a text.
-#[derive(Drop)]
+#[derive(Clone, Copy)]
 pub enum Making {
     Write,
     Read,
@@ -28,7 +28,7 @@ pub enum Making {
 }
 
 // What a case asks, beside the words of its header that are taken as they are and the bytes behind it.
-#[derive(Drop)]
+#[derive(Clone, Copy)]
 pub enum Ask {
     Judge,
     Value { record: usize, field: usize },
@@ -42,7 +42,7 @@ pub enum Ask {
 }
 
 // What is asked, and how many bytes are behind the header: first those of a fixed value or an original, where it has one, then the body.
-#[derive(Drop)]
+#[derive(Clone, Copy)]
 pub struct Case {
     pub ask: Ask,
     pub first: usize,
@@ -50,7 +50,7 @@ pub struct Case {
 }
 
 // What is wrong with a header: its end, its first word, how many words it has, or one of them.
-#[derive(Drop)]
+#[derive(Clone, Copy)]
 pub enum Fault {
     CarriageReturn,
     NoCase,
@@ -68,7 +68,7 @@ pub enum Fault {
 }
 
 // What a header says, or what is wrong with it.
-#[derive(Drop)]
+#[derive(Clone, Copy)]
 pub enum Header {
     Of(Case),
     Bad(Fault),

@@ -13,7 +13,7 @@ use record::{BAR, Cursor, Step};
 
 // An entry of an index: a record's number and byte place, its parent's entry, counted from 1 (itself where it has no parent), and how many
 // direct children it has.
-#[derive(Drop)]
+#[derive(Clone, Copy)]
 pub struct Entry {
     pub record: usize,
     pub place: usize,
@@ -22,14 +22,14 @@ pub struct Entry {
 }
 
 // What is said of a file and a list: filled, with the file's number of records and the number of entries; or refused.
-#[derive(Drop)]
+#[derive(Clone, Copy)]
 pub enum Indexed {
     Filled { records: usize, entries: usize },
     Refused(Refusal),
 }
 
 // What is to be said, and how many entries are to be stored.
-#[derive(Drop)]
+#[derive(Clone, Copy)]
 pub struct Begun {
     pub answer: Indexed,
     pub count: usize,
@@ -37,7 +37,7 @@ pub struct Begun {
 
 // Where a filling stands: how many records have been read and where to read on, how many entries they had, which kinds may have children,
 // the last entry of each kind, and the entry read last.
-#[derive(Drop)]
+#[derive(Clone, Copy)]
 pub struct Filling {
     pub records: usize,
     pub at: usize,

@@ -14,14 +14,14 @@ use place::Refusal;
 use record::{BAR, Cursor, FEED, Step};
 
 // What is said of a file: accepted with its number of records, or refused.
-#[derive(Drop)]
+#[derive(Clone, Copy)]
 pub enum Judged {
     Accepted(usize),
     Refused(Refusal),
 }
 
 // The same before a refusal's place is looked up.
-#[derive(Drop)]
+#[derive(Clone, Copy)]
 pub enum Verdict {
     Accepted(usize),
     Refused {
@@ -32,7 +32,7 @@ pub enum Verdict {
 }
 
 // The first refusal among some records, or the state after them all.
-#[derive(Drop)]
+#[derive(Clone, Copy)]
 pub enum Walk {
     Stopped {
         number: usize,

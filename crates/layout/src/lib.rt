@@ -166,7 +166,7 @@ pub fn name_of(t: &[u32], k: usize) -> [u8; 3]
 }
 
 // Where the rules of a kind stand among the numbers, and how many there are.
-#[derive(Drop)]
+#[derive(Clone, Copy)]
 pub struct Rules {
     pub place: usize,
     pub count: usize,

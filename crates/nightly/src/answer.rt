@@ -73,8 +73,8 @@ fn make(making: Making, flow: &[u8], body: &[u8], room: &mut [u8]) -> Transfer {
     match making {
         Making::Write => sheet::write(flow, body, room),
         Making::Read => sheet::read(flow, body, room),
-        Making::Export => csv::export(flow, body, room),
-        Making::Import => csv::import(body, room),
+        Making::Export => csv_text::export(flow, body, room),
+        Making::Import => csv_text::import(body, room),
     }
 }
 

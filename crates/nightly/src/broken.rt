@@ -6,7 +6,7 @@ use stream::{tell, tell_number, tell_shown};
 use text::same_bytes;
 
 // Which case it is, counted from 1, and the byte of the stream where its header starts, counted from 0.
-#[derive(Drop)]
+#[derive(Clone, Copy)]
 pub struct Place {
     pub case: u64,
     pub at: u64,
@@ -25,7 +25,7 @@ impl Place {
 }
 
 // What is wrong with a case: it is cut short, or its header is too long or not one of ours.
-#[derive(Drop)]
+#[derive(Clone, Copy)]
 pub enum Fault {
     HeaderCut,
     FirstCut { stated: usize, came: usize },

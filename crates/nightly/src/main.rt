@@ -17,7 +17,7 @@ use stream::{Ending, Reading, Unread};
 
 // How many bytes a case has, all of them there and answered; or what is wrong with it where no more
 // comes; or what is wrong with it; or its answer was not written.
-#[derive(Drop)]
+#[derive(Clone, Copy)]
 enum First {
     Took(usize),
     Short(Fault),
@@ -26,14 +26,14 @@ enum First {
 }
 
 // Where the run is: the unread bytes, and the place of the case that they begin with.
-#[derive(Drop)]
+#[derive(Clone, Copy)]
 struct Run {
     unread: Unread,
     place: Place,
 }
 
 // Whether the run goes on, and from where; or how it ended.
-#[derive(Drop)]
+#[derive(Clone, Copy)]
 enum Turn {
     On(Run),
     Over(Ending),

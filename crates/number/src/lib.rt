@@ -11,7 +11,7 @@ ghost use Rattle.number.specs.Leaves.{leads, spelt_from};
 use text::Order;
 
 // What a pass over digits finds: the number that they spell, or a byte that is no digit.
-#[derive(Drop)]
+#[derive(Clone, Copy)]
 pub enum Spelt {
     Digits(u64),
     Other,

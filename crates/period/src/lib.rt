@@ -17,7 +17,7 @@ use place::Refusal;
 use record::{BAR, Cursor, Step};
 
 // What is said of a file: a refusal, or yes or no.
-#[derive(Drop)]
+#[derive(Clone, Copy)]
 pub enum Answer {
     Refused(Refusal),
     Yes,
@@ -25,7 +25,7 @@ pub enum Answer {
 }
 
 // Where reading stops: the end of the record there, and whether its period is the one asked for; or there is no stop.
-#[derive(Drop)]
+#[derive(Clone, Copy)]
 enum Stop {
     At { end: usize, is_asked: bool },
     Nowhere,

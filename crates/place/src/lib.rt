@@ -7,7 +7,7 @@ ghost use Rattle.place.specs.Places.{place_at, refusal_at, whole as whole_of};
 use record::Found;
 
 // A refusal's number, the record and field where it is, and the place of these in the bytes that were judged, counted from 0.
-#[derive(Drop)]
+#[derive(Clone, Copy)]
 pub struct Refusal {
     pub number: usize,
     pub record: usize,

@@ -11,7 +11,7 @@ use record::{Found, TAB};
 use stream::{print, print_number};
 
 // What is shown of a record: the bytes from `from` up to `to`, and under them a mark, with so many of them before it.
-#[derive(Drop)]
+#[derive(Clone, Copy)]
 struct Part {
     from: usize,
     to: usize,

@@ -101,13 +101,13 @@ fn find_far(s: &[u8], at: usize, sep: u8) -> usize
 }
 
 // A place in a file, from which the next record is cut.
-#[derive(Drop)]
+#[derive(Clone, Copy)]
 pub struct Cursor {
     pub at: usize,
 }
 
 // The record from `start` up to `end`, with the cursor past it and its line feed; or none is left.
-#[derive(Drop)]
+#[derive(Clone, Copy)]
 pub enum Step {
     Record {
         start: usize,
@@ -144,13 +144,13 @@ impl Cursor {
 }
 
 // A place in a record, from which the next field is cut; past the end when none is left.
-#[derive(Drop)]
+#[derive(Clone, Copy)]
 pub struct FieldCursor {
     pub at: usize,
 }
 
 // The field from `start` up to `end`, with the cursor past it and its separator; or none is left.
-#[derive(Drop)]
+#[derive(Clone, Copy)]
 pub enum FieldStep {
     Field {
         start: usize,
@@ -179,7 +179,7 @@ impl FieldCursor {
 }
 
 // Where a part of some bytes stands, or that there is none.
-#[derive(Drop)]
+#[derive(Clone, Copy)]
 pub enum Found {
     At { start: usize, end: usize },
     Nothing,

@@ -15,7 +15,7 @@ use place::Refusal;
 use record::{BAR, Cursor, Step};
 
 // Which of the two files.
-#[derive(Drop)]
+#[derive(Clone, Copy)]
 pub enum Which {
     Original,
     Resubmission,
@@ -33,7 +33,7 @@ pub fn file_number(file: Which) -> usize
 
 // What is said of the n-th record in force: the reader's refusal of one of the files; 23, with the number in force; or the file that
 // holds it, that number, and where the record starts and ends there.
-#[derive(Drop)]
+#[derive(Clone, Copy)]
 pub enum InForce {
     Refused {
         refusal: Refusal,
@@ -52,7 +52,7 @@ pub enum InForce {
 }
 
 // A pair's records in a file: how many they are, and where the n-th starts and ends; 0 and 0 where there is none.
-#[derive(Drop)]
+#[derive(Clone, Copy)]
 struct Rows {
     number: usize,
     start: usize,

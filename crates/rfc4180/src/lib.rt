@@ -34,7 +34,7 @@ pub const AFTER_RETURN: u8 = 5;
 pub const STOPPED: u8 = 6;
 
 // A text that goes through, with the lines and bytes of its sheet; or the line where it stops.
-#[derive(Drop)]
+#[derive(Clone, Copy)]
 pub enum Looked {
     Through { lines: usize, bytes: usize },
     Stopped { line: usize },

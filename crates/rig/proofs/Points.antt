@@ -52,9 +52,9 @@ use Rattle.sheet.specs.declared.Transfer.{Transfer}
 use Rattle.sheet.specs.declared.Transfer.TheVariants.{Done, Refused}
 use Rattle.rfc4180.specs.Rfc.{comma}
 use Rattle.rfc4180.proofs.Starting.{start_place}
-use Rattle.csv.specs.Export.{export_of, exported, Exported}
-use Rattle.csv.specs.Import.{Imported}
-use Rattle.csv.specs.Import as imports
+use Rattle.csv_text.specs.Export.{export_of, exported, Exported}
+use Rattle.csv_text.specs.Import.{Imported}
+use Rattle.csv_text.specs.Import as imports
 use Rattle.index.specs.Entries.{indexed_by, answer_for, entries_for}
 use Rattle.index.specs.declared.Entry.{Entry}
 use Rattle.index.specs.declared.Indexed.{Indexed}

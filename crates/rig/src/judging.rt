@@ -11,7 +11,7 @@ use record::BAR;
 use stream::{Ending, print, print_number};
 
 // What came of one file; it is unwritten where its answer could not be written.
-#[derive(Drop)]
+#[derive(Clone, Copy)]
 pub enum Outcome {
     Accepted,
     Refused,
@@ -20,7 +20,7 @@ pub enum Outcome {
 }
 
 // How many files were accepted, refused and not read, and whether each answer was written.
-#[derive(Drop)]
+#[derive(Clone, Copy)]
 pub struct Tally {
     pub accepted: usize,
     pub refused: usize,

@@ -13,7 +13,7 @@ use sheet::Transfer;
 use stream::Ending;
 
 // What is made for a flow: a file from a sheet, a sheet from a file, or a text from a file.
-#[derive(Drop)]
+#[derive(Clone, Copy)]
 enum Making {
     Write,
     Read,
@@ -74,7 +74,7 @@ fn make_and_keep(what: Making, flow: &[u8], given: &[u8], out: &mut [u8]) -> End
             keep(flow, BAR, given, out, made)
         }
         Making::Export => {
-            let made = csv::export(flow, given, out);
+            let made = csv_text::export(flow, given, out);
             keep(flow, BAR, given, out, made)
         }
     }
@@ -138,7 +138,7 @@ fn keep_sheet(text: &[u8], out: &[u8], made: Transfer) -> Ending
 
 // Makes a sheet of a text, and keeps it.
 fn import_and_keep(text: &[u8], out: &mut [u8]) -> Ending {
-    let made = csv::import(text, out);
+    let made = csv_text::import(text, out);
     keep_sheet(text, out, made)
 }
 

@@ -16,8 +16,8 @@ use Rattle.sheet.specs.Sheets.{made, sheet_of}
 use Rattle.sheet.specs.Write as writing
 use Rattle.sheet.specs.Read as reading
 use Rattle.sheet.specs.declared.Transfer.{Transfer}
-use Rattle.csv.specs.Export as exporting
-use Rattle.csv.specs.Import as importing
+use Rattle.csv_text.specs.Export as exporting
+use Rattle.csv_text.specs.Import as importing
 
 -- a refusal: its number, record, field and place
 abbrev pub refusal_cells : ℕ → ℕ → ℕ → ℕ → List ℕ

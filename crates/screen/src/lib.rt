@@ -87,7 +87,7 @@ pub extern "C" fn screen_read(flow: &[u8], file: &[u8], out: &mut [u8], answer: 
 pub extern "C" fn screen_export(flow: &[u8], file: &[u8], out: &mut [u8], answer: &mut [u64; 4])
     ensures { ExportedCells (asked flow.now) file.now answer.new out.old out.new }
 {
-    *answer = transfer_cells(csv::export(flow, file, out));
+    *answer = transfer_cells(csv_text::export(flow, file, out));
 }
 
 // Imports comma-separated text as a sheet in the lent bytes.
@@ -95,7 +95,7 @@ pub extern "C" fn screen_export(flow: &[u8], file: &[u8], out: &mut [u8], answer
 pub extern "C" fn screen_import(text: &[u8], out: &mut [u8], answer: &mut [u64; 4])
     ensures { ImportedCells text.now answer.new out.old out.new }
 {
-    *answer = transfer_cells(csv::import(text, out));
+    *answer = transfer_cells(csv_text::import(text, out));
 }
 
 // Yes is 1, no is 0.

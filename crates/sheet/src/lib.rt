@@ -17,14 +17,14 @@ use place::Refusal;
 use record::{BAR, FEED, TAB};
 
 // A file or sheet handed over, with its records and bytes; or a refusal, and no byte touched.
-#[derive(Drop)]
+#[derive(Clone, Copy)]
 pub enum Transfer {
     Done { records: usize, bytes: usize },
     Refused(Refusal),
 }
 
 // A sheet whose made file is right, with that file's records and checksum; or a refusal before its place is looked up.
-#[derive(Drop)]
+#[derive(Clone, Copy)]
 pub enum Made {
     Right {
         records: usize,

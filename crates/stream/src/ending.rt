@@ -13,7 +13,7 @@ const CLOSING: &str = "/proc/self/fd/3";
 const OUTPUT: &str = "/proc/self/fd/1";
 
 // All is well; or the answer is a refusal; or something hindered the run, and standard error says what.
-#[derive(Drop)]
+#[derive(Clone, Copy)]
 pub enum Ending {
     Well,
     Refused,

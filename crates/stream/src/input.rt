@@ -14,7 +14,7 @@ pub struct Unread {
 
 // What a read of standard input left: more unread bytes; or no more of them, since the input has ended
 // or the window is full; or it failed.
-#[derive(Drop)]
+#[derive(Clone, Copy)]
 pub enum Reading {
     Came(Unread),
     Ended(Unread),

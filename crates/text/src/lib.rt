@@ -6,7 +6,7 @@ ghost use Rattle.text.specs.Characters.{is_text, all, IsClassTable};
 ghost use Rattle.text.specs.Order.{same_bytes, number_order, text_order};
 
 // How one text or number stands to another.
-#[derive(Drop)]
+#[derive(Clone, Copy)]
 pub enum Order {
     Below,
     Equal,

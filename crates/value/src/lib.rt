@@ -12,7 +12,7 @@ use place::Refusal;
 use record::{BAR, Found};
 
 // A refusal, or a value. A text's value is where its bytes start and end in the file.
-#[derive(Drop)]
+#[derive(Clone, Copy)]
 pub enum Value {
     Refused(Refusal),
     Empty,

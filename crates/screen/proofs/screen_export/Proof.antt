@@ -2,7 +2,7 @@
 use borrow.Author.Rules.{rules}
 use lib.ListN.{length}
 use Rattle.flow.specs.Editions.{asked}
-use Rattle.csv.specs.Export.{export_of, exported}
+use Rattle.csv_text.specs.Export.{export_of, exported}
 use Rattle.screen.proofs.Transfers.{handed_cells}
 use Rattle.screen.proofs.screen_export.Statement.{statement}
 use Rattle.screen.proofs.screen_export.Tie as tie

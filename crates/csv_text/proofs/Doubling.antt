@@ -1,0 +1,102 @@
+-- Laws of a field as text. Assumes nothing.
+use Prim.Native.Nat.{ℕ, suc, ◌+◌, ◌≤◌, ◌<◌}
+use mathlib.Core.Path.{◌≡◌, refl, sym, ap, ◌∙◌}
+use mathlib.Core.Bool.{Bool, true, false, cond, ◌||◌}
+use mathlib.Core.List.{List, [], ◌∷◌, ◌++◌}
+use native.Mathlib.Numerals.{add-one}
+use native.Mathlib.Omega.{arith}
+use lib.Dec.{eqb}
+use lib.ListN.{length, get_or, drop, length-append, drop_of_length-le}
+use lib.Seq.{drop-cons}
+use borrow.Author.Tests.{eq-eqb, ne_eqb}
+use Rattle.record.specs.Records.{holds}
+use Rattle.rfc4180.specs.Rfc.{comma, quote}
+use Rattle.csv_text.specs.Export.{quoted, doubled, field_of}
+
+cons_go : (b : ℕ) (s : List ℕ) (t : Bool) → cond t (quote ∷ quote ∷ s) (b ∷ s) ≡ cond t (quote ∷ quote ∷ []) (b ∷ []) ++ s
+cons_go b s true = refl
+cons_go b s false = refl
+
+pub doubled_cons : (b : ℕ) (s : List ℕ) → doubled (b ∷ s) ≡ doubled (b ∷ []) ++ doubled s
+unfolding doubled
+doubled_cons b s = cons_go b (doubled s) (eqb b quote)
+
+-- one byte
+pub doubled_quote : (b : ℕ) → b ≡ quote → doubled (b ∷ []) ≡ b ∷ b ∷ []
+unfolding doubled
+doubled_quote b e = rw (eq-eqb b quote e) (λ i. sym e i ∷ sym e i ∷ [])
+
+pub doubled_other : (b : ℕ) → (b ≡ quote → ⊥) → doubled (b ∷ []) ≡ b ∷ []
+unfolding doubled
+doubled_other b h = rw (ne_eqb b quote h)
+
+module _ (x : List ℕ) (i : ℕ) where
+  pub doubled_next : i < length x → doubled (drop i x) ≡ doubled (get_or x i 0 ∷ []) ++ doubled (drop (i + 1) x)
+  doubled_next h = rw (add-one i, drop-cons x i 0 h) (doubled_cons (get_or x i 0) (drop (suc i) x))
+
+  pub doubled_end : length x ≤ i → doubled (drop i x) ≡ []
+  unfolding doubled
+  doubled_end h = rw (drop_of_length-le x {i = i} h)
+
+two_go : (b n : ℕ) (s : List ℕ) (t : Bool) → length s ≤ n → length (cond t (quote ∷ quote ∷ s) (b ∷ s)) ≤ n + 2
+two_go b n s true h = omega arith
+two_go b n s false h = omega arith
+
+pub doubled_le : (x : List ℕ) → length (doubled x) ≤ length x + length x
+unfolding doubled
+doubled_le [] = omega arith
+doubled_le (b ∷ s) = omega (arith, two_go b (length s + length s) (doubled s) (eqb b quote) (doubled_le s))
+
+module _ (x : List ℕ) where
+  pub field_plain : quoted x ≡ false → field_of x ≡ x
+  unfolding field_of
+  field_plain e = rw e
+
+  pub field_quoted : quoted x ≡ true → field_of x ≡ quote ∷ (doubled x ++ quote ∷ [])
+  unfolding field_of
+  field_quoted e = rw e
+
+  le_go : (t : Bool) → quoted x ≡ t → length (field_of x) ≤ length x + length x + 2
+  le_go true e = omega (arith, ap length (field_quoted e), length-append (doubled x) (quote ∷ []), doubled_le x)
+  le_go false e = omega (arith, ap length (field_plain e))
+
+  pub field_le : length (field_of x) ≤ length x + length x + 2
+  field_le = le_go (quoted x) refl
+
+some_go : (b : ℕ) (t : Bool) → 1 ≤ length (cond t (quote ∷ quote ∷ []) (b ∷ []))
+some_go b true = omega arith
+some_go b false = omega arith
+
+pub doubled_some : (b : ℕ) → 1 ≤ length (doubled (b ∷ []))
+unfolding doubled
+doubled_some b = some_go b (eqb b quote)
+
+pub size_next : (x : List ℕ) (i : ℕ) → i < length x → length (doubled (drop i x)) ≡ length (doubled (get_or x i 0 ∷ [])) + length (doubled (drop (i + 1) x))
+size_next x i h = ap length (doubled_next x i h) ∙ length-append (doubled (get_or x i 0 ∷ [])) (doubled (drop (i + 1) x))
+
+pub size_quoted : (x : List ℕ) → quoted x ≡ true → length (field_of x) ≡ length (doubled x) + 2
+size_quoted x e = omega (arith, ap length (field_quoted x e), length-append (doubled x) (quote ∷ []))
+
+-- a comma or a quotation mark looked for: the byte at i, then those after it
+module _ (x : List ℕ) (i : ℕ) (found : Bool) where
+  mark_go : (a q f c d : Bool) → (a || (q || f) || (c || d)) ≡ (f || (a || c || (q || d)))
+  mark_go true q true c d = refl
+  mark_go true q false c d = refl
+  mark_go false true true c d = refl
+  mark_go false true false true d = refl
+  mark_go false true false false d = refl
+  mark_go false false f c d = refl
+
+  pub mark_next : i < length x → (eqb (get_or x i 0) comma || (eqb (get_or x i 0) quote || found) || quoted (drop (i + 1) x)) ≡ (found || quoted (drop i x))
+  unfolding holds
+  mark_next h =
+      let b = get_or x i 0 in
+      rw (add-one i, drop-cons x i 0 h) (mark_go (eqb b comma) (eqb b quote) found (holds comma (drop (suc i) x)) (holds quote (drop (suc i) x)))
+
+  or_none : (t : Bool) → t ≡ (t || false)
+  or_none true = refl
+  or_none false = refl
+
+  pub mark_end : length x ≤ i → found ≡ (found || quoted (drop i x))
+  unfolding holds
+  mark_end h = rw (drop_of_length-le x {i = i} h) (or_none found)
