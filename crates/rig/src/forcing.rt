@@ -9,6 +9,7 @@ use place::Refusal;
 use printing::{print_numbers, print_withheld};
 use record::BAR;
 use resubmission::{InForce, Which, file_number};
+use std::rt::{Env, Files};
 use stream::Ending;
 use words::Number;
 
@@ -31,20 +32,27 @@ fn chosen<'a>(file: Which, original: &'a [u8], resubmission: &'a [u8]) -> &'a [u
 }
 
 // Prints a refusal of one of the two files, the sentence on it, and the byte that it points at.
-fn refuse_file(edition: &[u8], file: Which, bytes: &[u8], r: Refusal) -> Ending
+fn refuse_file(
+    rt: &(impl Env + Print + Eprint),
+    edition: &[u8],
+    file: Which,
+    bytes: &[u8],
+    r: Refusal,
+) -> Ending
     requires { Placed bar bytes.now r }
 {
     let mut name = io::large_buffer();
-    let n = os::arg(word_of(file), &mut name);
+    let n = stream::arg(rt, word_of(file), &mut name);
     refused(
-        print_withheld(r, file_number(file), 0)
-            && sentences::about_one_of_two(edition, file, &name[..n], bytes, r)
-            && pointing::point(BAR, bytes, r),
+        print_withheld(rt, r, file_number(file), 0)
+            && sentences::about_one_of_two(rt, edition, file, &name[..n], bytes, r)
+            && pointing::point(rt, BAR, bytes, r),
     )
 }
 
 // Prints where record n of so many in force stands in its file, and the record as it is handed back.
 fn print_record(
+    rt: &(impl Env + Print + Eprint),
     file: Which,
     bytes: &[u8],
     record: &[u8],
@@ -54,15 +62,16 @@ fn print_record(
     end: usize,
 ) -> Ending {
     let mut name = io::large_buffer();
-    let k = os::arg(word_of(file), &mut name);
+    let k = stream::arg(rt, word_of(file), &mut name);
     well(
-        print_numbers(b"ok", &[0, file_number(file), number, start, end])
-            && sentences::about_record(n, number, file, &name[..k], bytes, start, record),
+        print_numbers(rt, b"ok", &[0, file_number(file), number, start, end])
+            && sentences::about_record(rt, n, number, file, &name[..k], bytes, start, record),
     )
 }
 
 // Prints record n in force of two files, for a subject and a group.
 fn record_in<'a>(
+    rt: &(impl Env + Print + Eprint),
     edition: &[u8],
     original: &'a [u8],
     resubmission: &'a [u8],
@@ -73,11 +82,17 @@ fn record_in<'a>(
 ) -> Ending {
     match resubmission::in_force(edition, original, resubmission, id, date, group, n) {
         InForce::Refused { refusal, file } => {
-            refuse_file(edition, file, chosen(file, original, resubmission), refusal)
+            refuse_file(
+                rt,
+                edition,
+                file,
+                chosen(file, original, resubmission),
+                refusal,
+            )
         }
         InForce::NoSuch { refusal, number } => refused(
-            print_withheld(refusal, 0, number)
-                && sentences::about_no_record(id, date, group, n, number),
+            print_withheld(rt, refusal, 0, number)
+                && sentences::about_no_record(rt, id, date, group, n, number),
         ),
         InForce::Found {
             file,
@@ -85,6 +100,7 @@ fn record_in<'a>(
             start,
             end,
         } => print_record(
+            rt,
             file,
             chosen(file, original, resubmission),
             resubmission::record_in_force(edition, original, resubmission, id, date, group, n),
@@ -97,19 +113,24 @@ fn record_in<'a>(
 }
 
 // Prints the record in force that the words from 4 on ask for. Where there is no word 8, no edition is named.
-fn record_asked<'a>(original: &'a [u8], resubmission: &'a [u8]) -> Ending {
-    let Number::Is(n) = number_word(7) else {
-        return hinder(b"N is a whole number up to 1,000,000,000");
+fn record_asked<'a>(
+    rt: &(impl Env + Print + Eprint),
+    original: &'a [u8],
+    resubmission: &'a [u8],
+) -> Ending {
+    let Number::Is(n) = number_word(rt, 7) else {
+        return hinder(rt, b"N is a whole number up to 1,000,000,000");
     };
     let mut id = io::large_buffer();
-    let i = os::arg(4, &mut id);
+    let i = stream::arg(rt, 4, &mut id);
     let mut date = io::large_buffer();
-    let d = os::arg(5, &mut date);
+    let d = stream::arg(rt, 5, &mut date);
     let mut group = io::large_buffer();
-    let g = os::arg(6, &mut group);
+    let g = stream::arg(rt, 6, &mut group);
     let mut edition = io::large_buffer();
-    let e = os::arg(8, &mut edition);
+    let e = stream::arg(rt, 8, &mut edition);
     record_in(
+        rt,
         &edition[..e],
         original,
         resubmission,
@@ -121,27 +142,31 @@ fn record_asked<'a>(original: &'a [u8], resubmission: &'a [u8]) -> Ending {
 }
 
 // Reads the resubmission into lent bytes, beside the original.
-fn record_beside(original: &[u8], room: &mut [u8]) -> Ending {
-    let resubmission = load_word(3, room);
+fn record_beside(
+    rt: &(impl Env + Files + Print + Eprint),
+    original: &[u8],
+    room: &mut [u8],
+) -> Ending {
+    let resubmission = load_word(rt, 3, room);
     if !resubmission.read {
         return Ending::Hindered;
     }
     let size = resubmission.size;
-    record_asked(original, &room[..size])
+    record_asked(rt, original, &room[..size])
 }
 
 // The room of the resubmission, as large as that of the original.
-fn record_from(original: &[u8]) -> Ending {
+fn record_from(rt: &(impl Env + Files + Print + Eprint), original: &[u8]) -> Ending {
     let mut room = [0u8; 1048577];
-    record_beside(original, &mut room)
+    record_beside(rt, original, &mut room)
 }
 
 // force ORIGINAL RESUBMISSION ID DATE GROUP N [EDITION]
-pub fn record_of(room: &mut [u8]) -> Ending {
-    let original = load_word(2, room);
+pub fn record_of(rt: &(impl Env + Files + Print + Eprint), room: &mut [u8]) -> Ending {
+    let original = load_word(rt, 2, room);
     if !original.read {
         return Ending::Hindered;
     }
     let size = original.size;
-    record_from(&room[..size])
+    record_from(rt, &room[..size])
 }
