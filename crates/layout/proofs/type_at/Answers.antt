@@ -1,0 +1,62 @@
+-- The type's code is the lowest octal digit, and the widths of numbers are clipped. Assumes nothing.
+use mathlib.Core.Path.{refl, ◌∙◌, ap}
+use Prim.Native.Nat.{ℕ, ◌/◌, ◌%◌}
+use native.Mathlib.Omega.{arith}
+use Rattle.field.specs.declared.FieldType.TheVariants as types
+use Rattle.field.proofs.Codes.{coded_null}
+use Rattle.layout.proofs.FieldRules.{type_coded_lem}
+use Rattle.layout.proofs.type_at.Goals as goal
+
+pub returns-in-0 : goal.returns-in-0
+returns-in-0 c =
+    let a = c.args in
+    let w = c.word-w in
+    (type_coded_lem a.t.now a.p w.result w.ensures.0 c.in-0.is, tt)
+
+pub returns-in-1 : goal.returns-in-1
+returns-in-1 c =
+    let a = c.args in
+    let w = c.word-w in (
+      ap (λ (n : ℕ). types.Int n) c.smaller.ensures ∙ type_coded_lem a.t.now a.p w.result w.ensures.0 c.in-1.is,
+      omega arith,
+    )
+
+pub returns-in-2 : goal.returns-in-2
+returns-in-2 c =
+    let a = c.args in
+    let w = c.word-w in (
+      ap (λ (n : ℕ). types.Dec n (w.result / 8192 % 32)) c.smaller-in-2.ensures ∙ type_coded_lem a.t.now a.p w.result w.ensures.0 c.in-2.is,
+      omega arith,
+    )
+
+pub returns-in-3 : goal.returns-in-3
+returns-in-3 c =
+    let a = c.args in
+    let w = c.word-w in
+    (type_coded_lem a.t.now a.p w.result w.ensures.0 c.in-3.is, tt)
+
+pub returns-in-4 : goal.returns-in-4
+returns-in-4 c =
+    let a = c.args in
+    let w = c.word-w in
+    (type_coded_lem a.t.now a.p w.result w.ensures.0 c.in-4.is, tt)
+
+pub returns-in-5 : goal.returns-in-5
+returns-in-5 c =
+    let a = c.args in
+    let w = c.word-w in
+    (type_coded_lem a.t.now a.p w.result w.ensures.0 c.in-5.is, tt)
+
+pub returns-in-6 : goal.returns-in-6
+returns-in-6 c =
+    let a = c.args in
+    let w = c.word-w in
+    (type_coded_lem a.t.now a.p w.result w.ensures.0 c.in-6.is, tt)
+
+pub returns-in_default : goal.returns-in_default
+returns-in_default c =
+    let a = c.args in
+    let w = c.word-w in
+    let k = c.in_default.in_default-own.rest in
+    let null = coded_null (w.result % 8) _ _ _ k.0.0.0.0.0.0.1 k.0.0.0.0.0.1 k.0.0.0.0.1 k.0.0.0.1 k.0.0.1 k.0.1 k.1 in
+    (null ∙ type_coded_lem a.t.now a.p w.result w.ensures.0 refl, tt)
