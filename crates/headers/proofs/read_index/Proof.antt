@@ -1,0 +1,59 @@
+-- The words are counted, and the last two are read. Assumes nothing.
+use borrow.Author.Rules.{rules}
+use borrow.Author.Tests.{eq-eqb, ne_eqb}
+use mathlib.Core.Path.{sym, ◌∙◌}
+use Rattle.headers.proofs.read_index.Statement.{statement}
+use Rattle.headers.proofs.read_index.Tie as tie
+use Rattle.headers.specs.Headers.{index_of}
+
+count-words-requires : tie.Need-count-words-requires
+count-words-requires c κs = search rules
+
+wrong-words-requires : tie.Need-wrong-words-requires
+wrong-words-requires c κs = search rules
+
+returns : tie.Need-returns
+unfolding index_of
+returns c = rw (ne_eqb _ _ (rw c.before.before.count-words.ensures at c.before.if1.true)) c.wrong-words.ensures
+
+word-requires : tie.Need-word-requires
+word-requires c κs = search rules
+
+read-entries-requires : tie.Need-read-entries-requires
+read-entries-requires c κs = search rules
+
+enum_told : tie.Need-enum-told
+enum_told c = search rules
+
+enum-known-room : tie.Need-enum-known-room
+enum-known-room c = search rules
+
+word-requires-2 : tie.Need-word-requires-2
+word-requires-2 c κs = search rules
+
+case-of-requires : tie.Need-case-of-requires
+case-of-requires c κs = search rules
+
+returns-2 : tie.Need-returns-2
+unfolding index_of
+returns-2 c = rw (eq-eqb _ _ (rw c.before.before.before.before.before.count-words.ensures at c.before.before.before.before.if1.false), sym (rw c.before.before.before.word.ensures at c.before.before.read-entries.ensures) ∙ c.enum_told.given.1)
+
+returns-3 : tie.Need-returns-3
+unfolding index_of
+returns-3 c = rw (eq-eqb _ _ (rw c.before.before.before.before.before.before.before.before.count-words.ensures at c.before.before.before.before.before.before.before.if1.false), sym (rw c.before.before.before.before.before.before.word.ensures at c.before.before.before.before.before.read-entries.ensures) ∙ c.before.before.before.room.given.1) (rw c.before.word2.ensures at c.case-of.ensures)
+
+pub read-index-spec : {M : Type 1} → statement M
+read-index-spec =
+    tie.close
+    (tie.spec
+    count-words-requires
+    wrong-words-requires
+    returns
+    word-requires
+    read-entries-requires
+    enum_told
+    enum-known-room
+    word-requires-2
+    case-of-requires
+    returns-2
+    returns-3)
