@@ -1,6 +1,7 @@
 // What a sentence on a refusal names, found in the bytes that are refused, and which refusals there are. In a file bars part
 // the fields, in a sheet tabs.
 #![tactic(auto)]
+
 ghost use Rattle.std.specs.Prelude.{◌≡◌, ℕ, ◌+◌, List, length};
 ghost use Rattle.text.specs.Characters.{from_to};
 ghost use Rattle.record.specs.Records.{field};

@@ -1,5 +1,6 @@
 // The header line of a case in a stream: words parted by tabs, the first of which says what the others are.
 #![tactic(auto)]
+
 ghost use Rattle.std.specs.Prelude.{◌≡◌, ◌≤◌, length};
 ghost use Rattle.record.specs.Records.{fields};
 ghost use Rattle.headers.specs.Headers.{word_of, length_in, asked_in, entries_in, wrong_words, case_of, plain_of, value_of, period_of, making_of, index_of, mark_in, form_in, field_of, room_named, case_named, header_of};
