@@ -1,11 +1,10 @@
 /* The screen called from C: answers a stream of cases, a line each, in the form of bin/nightly, so that bin/c-example can
    compare the lines with the second program's. A case is a header line of words parted by tabs, then as many bytes as its
-   last word says (before them, of field FIXED bytes, of force the original, as long as its first LENGTH says):
+   last word says (of field FIXED bytes before them):
 
      judge FLOW LENGTH    value FLOW RECORD FIELD LENGTH    field TYPE MARK FIXED LENGTH    sum LENGTH
      step FLOW LENGTH     write FLOW ROOM LENGTH            read FLOW ROOM LENGTH              index FLOW ROOM LENGTH
      import ROOM LENGTH   export FLOW ROOM LENGTH           period FLOW PERIOD LENGTH
-     force EDITION ID DATE GROUP N LENGTH LENGTH
 
    FLOW is a flow's name, or that, a space and an edition. ROOM is a number of bytes, for index of entries. The line of an index
    is followed by a line for each entry.
@@ -19,24 +18,23 @@ int putchar(int c);
 int printf(const char *form, ...);
 int sscanf(const char *s, const char *form, ...);
 int strcmp(const char *a, const char *b);
-screen_size strlen(const char *s);
 
 enum { MOST = 1114112, ASKED = 1000000000, FOLLOW = 96, ENTRIES = 8192 };
 
 struct word { char *at; screen_size len; };
 
 static char line[4096];
-static struct word word[8];
+static struct word word[5];
 static int words;
 static screen_byte body[2 * MOST], room[MOST];
-static screen_cell answer[8], cells[4 * ENTRIES];
+static screen_cell answer[4], cells[4 * ENTRIES];
 
 /* What a lent byte holds before a call. */
 static screen_byte pattern(screen_size place) { return (screen_byte)(place * 167 + 13); }
 
 /* Fills the cells and so many bytes of room, so that it shows what a call leaves as it was. */
 static void lend(screen_size size) {
-    for (int i = 0; i < 8; i++) answer[i] = 77;
+    for (int i = 0; i < 4; i++) answer[i] = 77;
     for (screen_size i = 0; i < size; i++) room[i] = pattern(i);
 }
 
@@ -64,13 +62,10 @@ static int cells_kept(screen_size from) {
 /* ---- the answers' lines */
 
 /* Says so of a cell that should be 0 and is not. No right line holds such words, so the comparison fails. */
-static void are_zero(int first, int end) {
-    for (int i = first; i < end; i++)
+static void rest_is_zero(int first) {
+    for (int i = first; i < 4; i++)
         if (answer[i] != 0) printf("(cell %d is not 0)", i);
 }
-
-/* The same of the cells from one on, where an answer has four. */
-static void rest_is_zero(int first) { are_zero(first, 4); }
 
 /* A word for a cell that is 0 or 1. */
 static const char *either(screen_cell cell, const char *no, const char *yes) {
@@ -150,20 +145,6 @@ static void period(struct word flow, screen_size asked, screen_size len) {
     put_value(body);
 }
 
-/* By four words: edition, id, date and group. The original stands at the front of body. */
-static void in_force(const struct word *by, screen_size n, screen_size original_len, const screen_byte *resubmission, screen_size len) {
-    lend(0);
-    screen_in_force((screen_byte *)by[0].at, by[0].len, body, original_len, resubmission, len, (screen_byte *)by[1].at, by[1].len,
-                    (screen_byte *)by[2].at, by[2].len, (screen_byte *)by[3].at, by[3].len, n, answer);
-    if (refused()) {
-        printf("\t%lu\t%lu", answer[4], answer[5]);
-        are_zero(6, 8);
-        return;
-    }
-    printf("ok\t0\t%lu\t%lu\t%lu\t%lu", answer[4], answer[5], answer[6], answer[7]);
-    are_zero(1, 4);
-}
-
 static void field(screen_code type, screen_size p, screen_size q, screen_code mark, screen_size fixed, screen_size len) {
     lend(0);
     screen_field(type, p, q, mark, body, fixed, body + fixed, len, answer);
@@ -210,7 +191,7 @@ static int read_header(void) {
     for (; c >= 0 && c != '\n' && n + 1 < sizeof line; c = getchar()) {
         line[n++] = c == '\t' ? 0 : (char)c;
         if (c != '\t') word[words - 1].len++;
-        else if (words < 8) word[words++] = (struct word){ line + n, 0 };
+        else if (words < 5) word[words++] = (struct word){ line + n, 0 };
     }
     line[n] = 0;
     return 1;
@@ -267,14 +248,6 @@ static int field_case(screen_size len) {
     return 1;
 }
 
-/* Answers a case of force, whose body is the original and then the resubmission; 0 where it is none. */
-static int force_case(screen_size len) {
-    screen_size n, original_len;
-    if (!number(5, ASKED, &n) || !number(6, MOST, &original_len) || !read_body(original_len + len)) return 0;
-    in_force(word + 1, n, original_len, body + original_len, len);
-    return 1;
-}
-
 static int is(const char *part, int its_words) { return words == its_words && strcmp(word[0].at, part) == 0; }
 
 /* Answers the case of the header that was read; 0 where it is none. */
@@ -282,7 +255,6 @@ static int answer_case(void) {
     screen_size len, asked, more;
     if (!number(words - 1, MOST, &len)) return 0;
     if (is("field", 5)) return field_case(len);
-    if (is("force", 8)) return force_case(len);
     if (!read_body(len)) return 0;
     if (is("judge", 3)) judge(word[1], len);
     else if (is("sum", 2)) printf("ok\t0\t%u\t0", screen_checksum(body, len));
@@ -381,37 +353,6 @@ static void numbers_of_period(void) {
     }
 }
 
-/* The records in force of two files, whole or cut off before their ZPT, and by numbers of which only the low half is a record's. */
-static void numbers_of_force(void) {
-    static const struct { char *edition, *group; screen_size n, original_len, len; } call[] = {
-        { "", "SF", 1, 119, 113 },
-        { "", "", 2, 119, 113 },
-        { "", "", 3, 119, 113 },
-        { "", "", 0, 119, 113 },
-        { "", "SF", 2, 119, 113 },
-        { "", "", (1UL << 32) + 1, 119, 113 },
-        { "", "", ~(screen_size)0, 119, 113 },
-        { "533", "", 1, 119, 113 },
-        { "711", "", 1, 119, 113 },
-        { "712", "", 1, 119, 113 },
-        { "", "", 1, 103, 113 },
-        { "", "", 0, 119, 96 },
-        { "", "", 1, 103, 96 },
-    };
-    put_in_body("ZHD|P0133001|Z|POOL|Z|SETT|20240105120000\nSB1|H|M|METER 01|20231231|M\nCM1|SF|1204|-1.5|12\n"
-                "CM1||7|0.0|0\nZPT|5|521299993\n"
-                "ZHD|P0133001|Z|POOL|Z|SETT|20240206090000\nSB1|H|M|METER 01|20231231|M\nCM1||8|0.0|0\nCM1||9|1.5|1\n"
-                "ZPT|5|1969700704\n");
-    for (screen_size i = 0; i < sizeof call / sizeof call[0]; i++) {
-        struct word by[] = {
-            { call[i].edition, strlen(call[i].edition) }, { "METER 01", 8 }, { "20231231", 8 }, { call[i].group, strlen(call[i].group) }
-        };
-        printf("force\t%s\t%s\t%lu\t%lu\t%lu\t", call[i].edition, call[i].group, call[i].n, call[i].original_len, call[i].len);
-        in_force(by, call[i].n, call[i].original_len, body + 119, call[i].len);
-        putchar('\n');
-    }
-}
-
 /* The index of a file with one entry, in cells that are no whole number of entries. */
 static void counts_of_cells(void) {
     static const screen_size call[] = { 3, 4, 7 };
@@ -431,7 +372,6 @@ int main(int count, char **words_given) {
         codes_of_field();
         numbers_of_value();
         numbers_of_period();
-        numbers_of_force();
         counts_of_cells();
         return 0;
     }

@@ -5,17 +5,17 @@
    What a caller has to see to, since C can't state it:
    - Bytes are a pointer and a length, with no NUL at their end; cells are a pointer and their number. No pointer is NULL;
      behind one with length 0 nothing is read.
-   - An array has the size shown: four cells for answer, eight for that of screen_in_force, 96 bytes for follow.
+   - An array has the size shown: four cells for answer, 96 bytes for follow.
    - What is written (answer, out, follow, cells) overlaps nothing else that is given to the same call.
    No function keeps anything between calls or allocates, so several threads may call at once; 8 KiB of stack are enough.
 
    A flow is the eight characters of its name: P0012001, P0133001, P0134001, P0138001, P0164001 or P0181002; or these, a space
    and an edition, 533 or 711, as in "P0133001 711". Where no edition is named, 533 is used. P0133001 has an SB1 of its own in
-   each edition; every other flow is the same in both. Records and fields count from 1. An answer is four cells, but eight for
-   screen_in_force. All are written, whatever they held, and a cell that says nothing is 0:
+   each edition; every other flow is the same in both. Records and fields count from 1. An answer is four cells. All four are
+   written, whatever they held, and a cell that says nothing is 0:
 
      cell          0                1           2                3
-     any refusal   number, 1 to 23  record or 0 field or 0       byte place
+     any refusal   number, 1 to 22  record or 0 field or 0       byte place
      judge         0                records     0                0
      write, read   0                records     bytes written    0
      export        0                records     bytes written    0
@@ -29,25 +29,20 @@
      step          0                0           kinds to follow  1 if the list is complete, else 0
                    0                place       0                0; the kind, counted from 1, where the list stopped
 
-     cell          0 to 3    4                           5                 6                7
-     in_force      0         1 original, 2 resubmission  number in force   where it starts  where it ends, as for a text
-     refusal 23    as above  0                           number in force   0                0
-     any other     as above  1 original, 2 resubmission  0                 0                0
-
-   The byte place of a refusal counts from 0, in the file, or for screen_write in the sheet, for screen_import in the text, for
-   screen_in_force in the file that cell 4 names. It is the first byte of the field; of the record where the field is 0 or not
-   there; 0 where the record is 0; and the length where the record is not there, as with 14, with 18 past the last record, and
-   with the footer that screen_write adds. A record of a sheet or a text is its line.
+   The byte place of a refusal counts from 0, in the file, or for screen_write in the sheet, for screen_import in the text. It
+   is the first byte of the field; of the record where the field is 0 or not there; 0 where the record is 0; and the length
+   where the record is not there, as with 14, with 18 past the last record, and with the footer that screen_write adds. A record
+   of a sheet or a text is its line.
 
    Cell 0 tells a refusal from all else:
-      1 no such flow              9 range of a field              17 out too short
-      2 more bytes than may be   10 fixed value or null differs   18 no such record, field, width, code or period
-      3 record over 512 bytes    11 key out of its order          19 cells too few for the entries
-      4 no kind of this flow     12 record count wrong            20 not comma-separated text
-      5 kind not allowed here    13 checksum wrong                21 no such edition
-      6 wrong number of fields   14 records end before ZPT        22 another flow
-      7 required field empty     15 last line feed absent         23 no such record in force
-      8 form of a field          16 bar in a sheet or text
+      1 no such flow              8 form of a field                15 last line feed absent
+      2 more bytes than may be    9 range of a field               16 bar in a sheet or text
+      3 record over 512 bytes    10 fixed value or null differs    17 out too short
+      4 no kind of this flow     11 key out of its order           18 no such record, field, width, code or period
+      5 kind not allowed here    12 record count wrong             19 cells too few for the entries
+      6 wrong number of fields   13 checksum wrong                 20 not comma-separated text
+      7 required field empty     14 records end before ZPT         21 no such edition
+                                                                   22 another flow
 
    1 is for a name that is none of these, or with anything but a space behind it; 21 for a space with anything but 533 or 711
    behind it, of whichever flow. 21 comes right after 1, before all else that a function may refuse. 22 is for another flow than
@@ -109,17 +104,6 @@ void screen_value(const screen_byte *flow, screen_size flow_len, const screen_by
    period outside 1 to 50, both at record 0; then 2. */
 void screen_period(const screen_byte *flow, screen_size flow_len, const screen_byte *file, screen_size file_len,
                    screen_size period, screen_cell answer[4]);
-
-/* Says where the n-th record in force stands, for a subject (participant id and period end date) and a GSP Group, of an original
-   and a resubmission, both P0133001 of one edition. In force are the resubmission's CM1 of that subject and group if it has any,
-   else the original's; those under several SB1 of the subject count together, in the file's order. id, date and group are compared
-   with the fields byte by byte, and no bytes are a group like any other. The record is without its line feed. No bytes of edition
-   name none; 21, of the original, comes first, then what screen_judge refuses of the original, then of the resubmission; then 23,
-   n is 0 or above the number in force. */
-void screen_in_force(const screen_byte *edition, screen_size edition_len, const screen_byte *original, screen_size original_len,
-                     const screen_byte *resubmission, screen_size resubmission_len, const screen_byte *id, screen_size id_len,
-                     const screen_byte *date, screen_size date_len, const screen_byte *group, screen_size group_len,
-                     screen_size n, screen_cell answer[8]);
 
 /* Judges one field's bytes against a type and a mark; the places of a text are places in bytes. text has its width in p (1
    to 512), int its digits (1 to 18), dec all its digits in p (2 to 18) and those after the point in q (1 to p - 1). Another

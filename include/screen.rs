@@ -1,4 +1,4 @@
-//! The screen for Rust: the functions of `screen.h`, which says what each does, what the cells of an answer hold and what a
+//! The screen for Rust: the functions of `screen.h`, which says what each does, what the four cells of an answer hold and what a
 //! caller has to see to; here each call is `unsafe` for that reason. `bin/c-example` holds this file to `screen.h`.
 //!
 //! A flow is asked for by its name, or by that, a space and an edition: `b"P0133001 711"`.
@@ -51,13 +51,6 @@ extern "C" {
     /// Says whether a P0012001 file has a period.
     pub fn screen_period(
         flow: *const u8, flow_len: usize, file: *const u8, file_len: usize, period: usize, answer: *mut [u64; 4],
-    );
-
-    /// Says where the n-th record in force of an original and a resubmission stands.
-    pub fn screen_in_force(
-        edition: *const u8, edition_len: usize, original: *const u8, original_len: usize, resubmission: *const u8,
-        resubmission_len: usize, id: *const u8, id_len: usize, date: *const u8, date_len: usize, group: *const u8, group_len: usize,
-        n: usize, answer: *mut [u64; 8],
     );
 
     /// Judges one field's bytes against a type and a mark.

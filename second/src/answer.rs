@@ -1,12 +1,10 @@
 //! The answer to a case, as `nightly` prints it: words parted by tabs, a line a case.
 //! A refusal has five words, the place last, and so has judge's `ok`; lines of write, read, index,
-//! export and import have a sixth. Force's `ok` has six, and its refusals seven. All other lines have
-//! four; a last word of no bytes keeps its tab.
+//! export and import have a sixth. All other lines have four; a last word of no bytes keeps its tab.
 
-use crate::bytes::{checksum, place_in, records_of, LINE_FEED};
+use crate::bytes::{checksum, records_of, LINE_FEED};
 use crate::csv::{export, import};
 use crate::field::{judge_field, Value};
-use crate::force::{in_force, Files, InForce, Which, Withheld};
 use crate::index::{index, Entry, Indexed};
 use crate::judge::{judge, value};
 use crate::period::has_period;
@@ -38,7 +36,6 @@ pub fn answer(ask: &Ask) -> Vec<u8> {
         Ask::Export { flow, room, file } => in_room(*room, |room| export(flow, file, room)),
         Ask::Import { room, text } => in_room(*room, |room| import(text, room)),
         Ask::Period { flow, period, file } => value_line(has_period(flow, file, *period).map(Value::Truth)),
-        Ask::Force { edition, files, pair, n } => force_line(*files, in_force(edition, *files, *pair, *n)),
     }
 }
 
@@ -70,25 +67,6 @@ fn step_line(step: Result<Step, Refusal>) -> Vec<u8> {
             [b"ok\t0\t", state, b"\t", &follow.concat(), b"\n"].concat()
         }
         Err(refusal) => line(&refused(refusal)),
-    }
-}
-
-/// A record in force by its ends in the file that holds it. Of the two files the original is 1; a 23
-/// is said of neither, and alone of the refusals has the number in force.
-fn force_line(files: Files, found: Result<InForce, Withheld>) -> Vec<u8> {
-    let mark = |which: Which| match which {
-        Which::Original => 1,
-        Which::Resubmission => 2,
-    };
-    match found {
-        Ok(InForce { number, held_by, part }) => {
-            let start = place_in(files.get(held_by), part);
-            line(&format!("ok\t0\t{}\t{}\t{}\t{}", mark(held_by), number, start, start + part.len()))
-        }
-        Err(Withheld::Refused(which, refusal)) => line(&format!("{}\t{}\t0", refused(refusal), mark(which))),
-        Err(Withheld::NoSuchRecord(number)) => {
-            line(&format!("{}\t0\t{}", refused(Refusal::whole(23)), number))
-        }
     }
 }
 

@@ -4,7 +4,7 @@ use crate::answer::answer;
 use crate::stream::{cases_of, BadHeader, CASE_KINDS};
 
 /// The highest number of a refusal; a request that brings a new one raises it.
-const REFUSALS: usize = 23;
+const REFUSALS: usize = 22;
 /// The columns: taken, stopped (step), then the refusals.
 const COLUMNS: usize = 2 + REFUSALS;
 

@@ -10,7 +10,6 @@ pub mod csv;
 pub mod draw;
 pub mod field;
 pub mod flows;
-pub mod force;
 pub mod grammar;
 pub mod index;
 pub mod judge;

@@ -19,7 +19,7 @@ const USAGE: &str = "usage:
   second draw FLOW > PICTURE.svg
 FLOW is a flow's name, or 'NAME EDITION'.
 KINDS is a comma list of judge, value, field, sum, step, write, read, index, export, import,
-period, force.";
+period.";
 
 /// What a command comes to: all is well, or something was found, or it could not run.
 enum End {

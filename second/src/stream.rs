@@ -1,20 +1,18 @@
-//! The stream of cases: a header line of words parted by tabs, then a body, or two end to end.
+//! The stream of cases: a header line of words parted by tabs, then a body.
 
 use crate::bytes::{LINE_FEED, TAB};
 use crate::field::{Mark, Type};
-use crate::force::{Files, Pair};
 
 /// The greatest LENGTH, FIXED and ROOM, so that files over the limit can be tried.
 pub const LENGTH_LIMIT: usize = 1_114_112;
-/// The greatest RECORD, FIELD, PERIOD and N that can be asked.
+/// The greatest RECORD, FIELD and PERIOD that can be asked.
 pub const ASKED_LIMIT: usize = 1_000_000_000;
 /// The greatest ROOM of an index, in entries.
 pub const ENTRIES_LIMIT: usize = 8192;
 
 /// The kinds of case, by the first word of their header.
-pub const CASE_KINDS: [&str; 12] = [
-    "judge", "value", "field", "sum", "step", "write", "read", "index", "export", "import", "period", "force",
-];
+pub const CASE_KINDS: [&str; 11] =
+    ["judge", "value", "field", "sum", "step", "write", "read", "index", "export", "import", "period"];
 
 /// What a case asks, with its body's bytes. A flow is given by its words, whatever these are.
 #[derive(Debug)]
@@ -30,7 +28,6 @@ pub enum Ask<'a> {
     Export { flow: &'a [u8], room: usize, file: &'a [u8] },
     Import { room: usize, text: &'a [u8] },
     Period { flow: &'a [u8], period: usize, file: &'a [u8] },
-    Force { edition: &'a [u8], files: Files<'a>, pair: Pair<'a>, n: usize },
 }
 
 impl Ask<'_> {
@@ -48,7 +45,6 @@ impl Ask<'_> {
             Ask::Export { .. } => 8,
             Ask::Import { .. } => 9,
             Ask::Period { .. } => 10,
-            Ask::Force { .. } => 11,
         }
     }
 }
@@ -98,12 +94,11 @@ fn first_case(stream: &[u8]) -> Option<(Ask<'_>, usize)> {
     let (header, behind) = (&stream[..end], &stream[end + 1..]);
     let words: Vec<&[u8]> = header.split(|&byte| byte == TAB).collect();
     let length = number(words.last()?, LENGTH_LIMIT)?;
-    // A field's fixed value, or an original, is a body before the last one.
-    let first = match words.as_slice() {
-        [b"field", _, _, first, _] | [b"force", _, _, _, _, _, first, _] => number(first, LENGTH_LIMIT)?,
+    let fixed = match words.as_slice() {
+        [b"field", _, _, fixed, _] => number(fixed, LENGTH_LIMIT)?,
         _ => 0,
     };
-    let body = behind.get(..first + length)?;
+    let body = behind.get(..fixed + length)?;
     let ask = match words.as_slice() {
         [b"judge", flow, _] => Ask::Judge { flow, file: body },
         [b"value", flow, record, field, _] => Ask::Value {
@@ -114,8 +109,8 @@ fn first_case(stream: &[u8]) -> Option<(Ask<'_>, usize)> {
         },
         [b"field", form, mark, _, _] => Ask::Field {
             form: Type::spelled(form)?,
-            mark: mark_of(mark, &body[..first])?,
-            bytes: &body[first..],
+            mark: mark_of(mark, &body[..fixed])?,
+            bytes: &body[fixed..],
         },
         [b"sum", _] => Ask::Sum { bytes: body },
         [b"step", flow, _] => Ask::Step { flow, kinds: body },
@@ -127,15 +122,9 @@ fn first_case(stream: &[u8]) -> Option<(Ask<'_>, usize)> {
         [b"period", flow, period, _] => {
             Ask::Period { flow, period: number(period, ASKED_LIMIT)?, file: body }
         }
-        [b"force", edition, id, date, group, n, _, _] => Ask::Force {
-            edition,
-            files: Files { original: &body[..first], resubmission: &body[first..] },
-            pair: Pair { id, date, group },
-            n: number(n, ASKED_LIMIT)?,
-        },
         _ => return None,
     };
-    Some((ask, end + 1 + first + length))
+    Some((ask, end + 1 + fixed + length))
 }
 
 /// A number of one to ten digits, at most the limit.

@@ -4,7 +4,6 @@
 use second::bytes::{records_of, BAR, LINE_FEED, TAB};
 use second::cases::Generator;
 use second::csv::{export, import, COMMA};
-use second::force::{in_force, Withheld};
 use second::index::{index, Entry};
 use second::judge::{judge, value};
 use second::period::has_period;
@@ -33,10 +32,6 @@ fn refused<'a>(ask: &Ask<'a>) -> Option<Refused<'a>> {
         Ask::Import { room, text } => (text, COMMA, import(text, &mut vec![0; room]).err()),
         Ask::Write { flow, room, sheet } => (sheet, TAB, write(flow, sheet, &mut vec![0; room]).err()),
         Ask::Period { flow, period, file } => (file, BAR, has_period(flow, file, period).err()),
-        Ask::Force { edition, files, pair, n } => match in_force(edition, files, pair, n) {
-            Err(Withheld::Refused(which, refusal)) => (files.get(which), BAR, Some(refusal)),
-            _ => return None,
-        },
         _ => return None,
     };
     Some(Refused { bytes, parting, refusal: refusal? })
@@ -167,13 +162,6 @@ fn places_in_files_asked_for_a_period() {
     // Such a file has 54 right records at most, so that none far down is refused.
     let near: Vec<&str> = IN_FILES.into_iter().filter(|clause| *clause != "a record far down").collect();
     hold("period", 2500, &near);
-}
-
-#[test]
-fn places_in_originals_and_resubmissions() {
-    // No such file needs its last line feed.
-    let wanted: Vec<&str> = IN_FILES.into_iter().filter(|clause| *clause != "no last line feed").collect();
-    hold("force", 3000, &wanted);
 }
 
 #[test]

@@ -144,31 +144,6 @@ fn answers_to_periods() {
 }
 
 #[test]
-fn answers_to_resubmissions() {
-    let (older, newer) = (good("P0133001"), good("P0133001 711"));
-    let of = |words: &str, original: &[u8], resubmission: &[u8]| {
-        let header = format!("force\t{}\t{}\t{}", words, original.len(), resubmission.len());
-        answered(&header, &[original, resubmission].concat())
-    };
-    let supplier = "SUPPLIER\t20240105";
-    let empty = footed(&lines("P0133001")[..1]);
-    let asked = |edition: &str, rest: &str| format!("{}\t{}\t{}", edition, supplier, rest);
-    assert_eq!(of(&asked("", "_A\t1"), &older, &empty), "ok\t0\t1\t1\t83\t98\n");
-    assert_eq!(of(&asked("", "_A\t1"), &empty, &older), "ok\t0\t2\t1\t83\t98\n");
-    assert_eq!(of(&asked("533", "\t0000000001"), &older, &older), "ok\t0\t2\t1\t70\t82\n");
-    assert_eq!(of(&asked("711", "_A\t1"), &newer, &empty), "ok\t0\t1\t1\t81\t96\n");
-    assert_eq!(of(&asked("", "_A\t2"), &older, &empty), "refused\t23\t0\t0\t0\t0\t1\n");
-    assert_eq!(of(&asked("", "_A\t1000000000"), &older, &empty), "refused\t23\t0\t0\t0\t0\t1\n");
-    assert_eq!(of("\t\t\t\t0", &older, &empty), "refused\t23\t0\t0\t0\t0\t0\n");
-    assert_eq!(of(&asked("", "_A\t0"), &newer, &older), "refused\t6\t2\t0\t42\t1\t0\n");
-    assert_eq!(of(&asked("", "_A\t1"), &older, &newer), "refused\t6\t2\t0\t42\t2\t0\n");
-    assert_eq!(of(&asked("", "_A\t1"), &older, b""), "refused\t14\t1\t0\t0\t2\t0\n");
-    assert_eq!(of(&asked("", "_A\t1"), b"", b""), "refused\t14\t1\t0\t0\t1\t0\n");
-    assert_eq!(of(&asked("712", "_A\t1"), b"", b""), "refused\t21\t0\t0\t0\t1\t0\n");
-    assert_eq!(of("\u{e9}|\tX Y\t\r\t\u{1}\t1", &older, b"X"), "refused\t21\t0\t0\t0\t1\t0\n");
-}
-
-#[test]
 fn headers_that_cannot_be_read() {
     let bad = [
         "",
@@ -282,40 +257,6 @@ fn headers_of_a_period_that_cannot_be_read() {
 }
 
 #[test]
-fn headers_of_a_resubmission_that_cannot_be_read() {
-    let bad = [
-        "force",
-        "force\t\t\t\t\t1\t0",
-        "force\t\t\t\t\t\t1\t0\t0",
-        "force\t\t\t\t\t\t0\t0",
-        "force\t\t\t\t\t-1\t0\t0",
-        "force\t\t\t\t\t+1\t0\t0",
-        "force\t\t\t\t\t1 \t0\t0",
-        "force\t\t\t\t\t1000000001\t0\t0",
-        "force\t\t\t\t\t00000000001\t0\t0",
-        "force\t\t\t\t\t1\t\t0",
-        "force\t\t\t\t\t1\t0\t",
-        "force\t\t\t\t\t1\t1114113\t0",
-        "force\t\t\t\t\t1\t0\t1114113",
-        "force\t\t\t\t\t1\t-1\t1",
-        "Force\t\t\t\t\t1\t0\t0",
-    ];
-    for header in bad {
-        assert!(is_bad(&case(header, b"")), "{:?}", header);
-    }
-    // The bodies are all there, and one of them is too long.
-    for header in ["force\t\t\t\t\t1\t1114113\t0", "force\t\t\t\t\t1\t0\t1114113"] {
-        assert!(is_bad(&case(header, &vec![b'\n'; 1_114_113])), "{:?}", header);
-    }
-    assert!(is_bad(b"force\t\t\t\t\t1\t2\t2\nabc"), "a body cut short");
-    assert!(is_bad(b"force\t\t\t\t\t1\t3\t2\nab"), "two bodies cut short");
-    assert!(!is_bad(b"force\t\t\t\t\t1000000000\t2\t1\nabc"));
-    assert!(!is_bad(b"force\t711\tA B\t|\t\xff\t0000000000\t0\t0\n"));
-    let long = case("force\t\t\t\t\t1\t1114112\t1114112", &vec![b'\n'; 2 * 1_114_112]);
-    assert_eq!(answers(&long), b"refused\t2\t0\t0\t0\t1\t0\n");
-}
-
-#[test]
 fn nothing_is_answered_behind_a_bad_header() {
     assert_eq!(cases_of(b"sum\t0\nbad\nsum\t0\n").count(), 2);
 }
@@ -334,8 +275,6 @@ fn the_comparison_finds_every_difference() {
         case("import\t9\t8", b"A,B\r\n|\r\n"),
         case("import\t9\t6", b"E,F\r\nG"),
         case(&format!("period\tP0012001\t9\t{}", rows.len()), &rows),
-        case(&format!("force\t\tSUPPLIER\t20240105\t_A\t1\t{}\t{}", sets.len(), sets.len()), &sets.repeat(2)),
-        case(&format!("force\t\tSUPPLIER\t20240105\t_A\t7\t{}\t{}", sets.len(), sets.len()), &sets.repeat(2)),
         case("sum\t3", b"abc"),
         case("step\tP0133001\t3", b"ZHD"),
         case("value\tP0138001\t9\t2\t88", EXAMPLE),
@@ -344,7 +283,7 @@ fn the_comparison_finds_every_difference() {
     .concat();
     let right = answers(&stream);
     let same = compare(&stream, &right);
-    assert_eq!((same.cases, same.differences, same.kept.len()), (14, 0, 0));
+    assert_eq!((same.cases, same.differences, same.kept.len()), (12, 0, 0));
     for place in 0..right.len() {
         let mut other = right.clone();
         other[place] ^= 1;
@@ -376,12 +315,6 @@ fn the_comparison_finds_every_difference() {
     let other_imported = replaced(&right, "2\t6\t0\t1\nE\tF\nG\n", "3\t4\t0\t1\nE\tF\n");
     assert_eq!(compare(&stream, &other_imported).differences, 1);
     assert_eq!(compare(&stream, &replaced(&right, "truth\tT", "truth\tF")).differences, 1);
-    for other in ["1\t1\t83\t98", "2\t2\t83\t98", "2\t1\t82\t98", "2\t1\t83\t99", "2\t1\t83"] {
-        let other = replaced(&right, "2\t1\t83\t98", other);
-        assert_eq!(compare(&stream, &other).differences, 1);
-    }
-    let no_number = replaced(&right, "23\t0\t0\t0\t0\t1", "23\t0\t0\t0\t0\t0");
-    assert_eq!(compare(&stream, &no_number).differences, 1);
     assert_eq!(compare(&stream, &[&right[..], b"more"].concat()).differences, 1);
 }
 
@@ -407,8 +340,6 @@ fn the_census_counts_by_kind_and_number() {
         case("step\tP0133001 0711\t3", b"ZHD"),
         case("period\tP0012001\t17\t0", b""),
         case("period\tP0138001\t17\t88", EXAMPLE),
-        case(&format!("force\t\tOTHER\t20240105\t\t1\t{}\t{}", sets.len(), sets.len()), &sets.repeat(2)),
-        case("force\t\tOTHER\t20240105\t\t1\t0\t0", b""),
     ];
     let counted = |stream: &[u8]| census(stream).unwrap_or_else(|_| panic!("a good stream"));
     let all = counted(&stream.concat());
@@ -417,9 +348,8 @@ fn the_census_counts_by_kind_and_number() {
     assert_eq!((all.taken("export"), all.taken("import"), all.refused("import", 20)), (1, 0, 1));
     assert_eq!((all.taken("step"), all.refused("step", 21), all.refused("judge", 21)), (1, 1, 0));
     assert_eq!((all.taken("period"), all.refused("period", 14), all.refused("period", 22)), (0, 1, 1));
-    assert_eq!((all.taken("force"), all.refused("force", 14), all.refused("force", 23)), (0, 1, 1));
     assert_eq!(all.not_reached().len(), 17);
     assert!(all.table().ends_with("refusals not reached: 1 2 3 4 5 6 7 8 9 10 11 12 13 15 16 17 18\n"));
-    assert_eq!(counted(&stream[..11].concat()).not_reached().last(), Some(&23));
-    assert_eq!(counted(&stream[11..].concat()).not_reached().last(), Some(&22));
+    assert_eq!(counted(&stream[..9].concat()).not_reached().last(), Some(&22));
+    assert_eq!(counted(&stream[9..].concat()).not_reached().last(), Some(&21));
 }

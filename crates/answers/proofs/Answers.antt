@@ -34,8 +34,6 @@ use Rattle.csv_text.specs.Export.{doubled, field_of, text_of, export_of, exporte
 use Rattle.csv_text.proofs.Computed.{computed_through, computed as imported}
 use Rattle.index.specs.Entries.{kinds_by, some_is, may_head, heads_in, last_of, parent_of, children_from, parent_entry, entries_from, indexed_by, list_by, indexed, listed}
 use Rattle.period.specs.Answer.{period_of, period_in, some_stops, up_to, some_has, read_up_to, has_by, has_for, has_period}
-use Rattle.resubmission.specs.Rows.{first_free, id_field, date_field, last_sb1, rows_from, row_at}
-use Rattle.resubmission.specs.InForce.{handed, in_force_by, in_force_for, in_force}
 use Rattle.answers.proofs.Cases.{copies, Case, given, expected, Right, both_right, bytes_before, behind}
 use Rattle.answers.proofs.Refusals.{refusals, neighbours}
 use Rattle.answers.proofs.Steps.{steps}
@@ -54,14 +52,13 @@ use Rattle.answers.proofs.MonthEnds.{month_ends}
 use Rattle.answers.proofs.CommaText.{comma_text}
 use Rattle.answers.proofs.NewerSubject.{newer_subject}
 use Rattle.answers.proofs.StopEarly.{stop_early}
-use Rattle.answers.proofs.Resubmitted.{resubmitted}
 
 -- the cases that are computed; where they fail, fewer of them at a time show which
 unfoldable pub computed : List Case
-computed = refusals ++ neighbours ++ steps ++ p0012 ++ p0181 ++ p0133 ++ p0134 ++ p0138 ++ p0164 ++ same_date ++ point_at ++ beside_file ++ month_ends ++ comma_text ++ newer_subject ++ stop_early ++ resubmitted
+computed = refusals ++ neighbours ++ steps ++ p0012 ++ p0181 ++ p0133 ++ p0134 ++ p0138 ++ p0164 ++ same_date ++ point_at ++ beside_file ++ month_ends ++ comma_text ++ newer_subject ++ stop_early
 
 computed_right : Right computed
-unfolding computed refusals neighbours steps p0012 p0181 p0133 p0134 p0138 p0164 same_date point_at beside_file month_ends comma_text newer_subject stop_early resubmitted lent copies given expected bytes_before behind joined onto records fields field extent turned holds words add_record checksum checksum_of minus unsigned plain int_form int_value dec_form dec_value spelled decimal_in decimal leap days_in is_day is_date is_time text_form bol_form period_range form range value_of width_right filled field_answer judged_as field_judged key_order number_order text_order digits_order whole_order among find flow_number is_digit is_text field_fault fields_fault last_kind key_with key_before place_fault shape_fault key_fault footer_fault kind_fault fault checked_from ended judged_by asked usual judged_for field_start place_at judged is_there field_value value_at value_by value_in valued footer made bar_line but_last sheet_of written_by written read_to kinds_in followers_from stepped kinds_by some_is may_head heads_in last_of parent_of children_from parent_entry entries_from indexed_by list_by indexed listed parted textdata next_of given_of stop_at lines_from sheet_from doubled field_of text_of export_of exported computed_through imported period_of period_in some_stops up_to some_has read_up_to has_by has_for has_period first_free id_field date_field last_sb1 rows_from row_at handed in_force_by in_force_for in_force
+unfolding computed refusals neighbours steps p0012 p0181 p0133 p0134 p0138 p0164 same_date point_at beside_file month_ends comma_text newer_subject stop_early lent copies given expected bytes_before behind joined onto records fields field extent turned holds words add_record checksum checksum_of minus unsigned plain int_form int_value dec_form dec_value spelled decimal_in decimal leap days_in is_day is_date is_time text_form bol_form period_range form range value_of width_right filled field_answer judged_as field_judged key_order number_order text_order digits_order whole_order among find flow_number is_digit is_text field_fault fields_fault last_kind key_with key_before place_fault shape_fault key_fault footer_fault kind_fault fault checked_from ended judged_by asked usual judged_for field_start place_at judged is_there field_value value_at value_by value_in valued footer made bar_line but_last sheet_of written_by written read_to kinds_in followers_from stepped kinds_by some_is may_head heads_in last_of parent_of children_from parent_entry entries_from indexed_by list_by indexed listed parted textdata next_of given_of stop_at lines_from sheet_from doubled field_of text_of export_of exported computed_through imported period_of period_in some_stops up_to some_has read_up_to has_by has_for has_period
 computed_right = refl
 
 unfoldable pub table : List Case

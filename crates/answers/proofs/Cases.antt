@@ -30,9 +30,6 @@ use Rattle.index.specs.Entries as index
 use Rattle.index.specs.declared.Entry.{Entry}
 use Rattle.period.specs.Answer.{has_period}
 use Rattle.period.specs.Answer as period
-use Rattle.resubmission.specs.Rows.{pair}
-use Rattle.resubmission.specs.InForce.{words_in, in_force}
-use Rattle.resubmission.specs.InForce as resubmission
 
 -- lines with a line feed after each
 abbrev pub lines : List String → List ℕ
@@ -65,7 +62,6 @@ pub data Said : Type 0 where
   of_step : Stepped → Said
   of_index : index.Reply → List Entry → Said
   of_period : period.Reply → Said
-  of_force : resubmission.Reply → Said
 
 -- a call, and after it what the papers say
 pub data Case : Type 0 where
@@ -91,8 +87,6 @@ pub data Case : Type 0 where
   indexing : String → List ℕ → List Entry → index.Reply → List Entry → Case
   -- a flow, a file and a period
   finding : String → List ℕ → ℕ → period.Reply → Case
-  -- an edition or none, an original and a resubmission, a participant id, a period end date, a GSP Group and a number
-  forcing : String → List ℕ → List ℕ → String → String → String → ℕ → resubmission.Reply → Case
 
 -- the answer of a part that makes a file, a sheet or a text, and the lent output after it
 abbrev pub transferred : Transfer → List ℕ → List ℕ → Said
@@ -111,7 +105,6 @@ given (exporting flow f old r new) = transferred (exported (asked (bytes flow)) 
 given (importing text old r new) = transferred (imported text (length old)) (sheet_from at_line text) old
 given (indexing flow f old r new) = of_index (indexed (asked (bytes flow)) f (length old)) (listed (asked (bytes flow)) f old)
 given (finding flow f p r) = of_period (has_period (asked (bytes flow)) f p)
-given (forcing edition a b id date group n r) = of_force (in_force (asked (words_in (bytes edition))) a b (pair (bytes id) (bytes date) (bytes group)) n)
 
 -- the answer by the papers
 unfoldable pub expected : Case → Said
@@ -126,7 +119,6 @@ expected (exporting flow f old r new) = of_sheet r new
 expected (importing text old r new) = of_sheet r new
 expected (indexing flow f old r new) = of_index r new
 expected (finding flow f p r) = of_period r
-expected (forcing edition a b id date group n r) = of_force r
 
 -- all of some cases are answered as the papers say
 abbrev pub Right : List Case → Type 0

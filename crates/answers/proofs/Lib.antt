@@ -16,5 +16,4 @@ pub mod MonthEnds
 pub mod CommaText
 pub mod NewerSubject
 pub mod StopEarly
-pub mod Resubmitted
 pub mod Answers

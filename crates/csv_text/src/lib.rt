@@ -1,5 +1,6 @@
 // Comma-separated text: a file exported as one, and one imported as a sheet.
 #![tactic(auto)]
+
 ghost use Rattle.std.specs.Prelude.{◌≡◌, List, ◌∷◌, [], ℕ, ◌+◌, ◌≤◌, length};
 ghost use Rattle.record.specs.Records.{records, fields, bar};
 ghost use Rattle.flow.specs.Editions.{asked};

@@ -1,5 +1,6 @@
 // What is wrong with one record, by a table and a summary of the records before it.
 #![tactic(auto)]
+
 ghost use Rattle.std.specs.Prelude.{◌≡◌, cond, List, ℕ, ◌<◌, ◌≤◌, ◌^◌, ◌+◌, ◌*◌, ◌-◌, eqb, length, get_or};
 ghost use Rattle.text.specs.Characters.{IsClassTable};
 ghost use Rattle.text.specs.Rules.{must};

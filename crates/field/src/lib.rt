@@ -1,5 +1,6 @@
 // One field's bytes judged against a type and its mark.
 #![tactic(auto)]
+
 ghost use Rattle.std.specs.Prelude.{◌≡◌, ◌&&◌, [], ◌<◌, ◌≤◌, ◌^◌, ◌+◌, ◌*◌, pos, length};
 ghost use Rattle.text.specs.Rules.{must};
 ghost use Rattle.text.specs.Characters.{all, is_digit, from_to, IsClassTable};

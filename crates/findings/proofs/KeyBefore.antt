@@ -23,16 +23,16 @@ module _ (sep : ℕ) (l : Layout) (k : ℕ) where
   abbrev KeyOf : List ℕ → List ℕ → Type 0
   KeyOf key r = (key ≡ []) ⊎ (key ≡ key_in sep l k r)
 
-  one_more_lem : (heads same : Bool) (key last r : List ℕ) → KeyOf key last → KeyOf (cond heads [] (cond same (key_in sep l k r) key)) (cond same r last)
-  one_more_lem true same key last r h = inl refl
-  one_more_lem false true key last r h = inr refl
-  one_more_lem false false key last r h = h
+  one_more : (heads same : Bool) (key last r : List ℕ) → KeyOf key last → KeyOf (cond heads [] (cond same (key_in sep l k r) key)) (cond same r last)
+  one_more true same key last r h = inl refl
+  one_more false true key last r h = inr refl
+  one_more false false key last r h = h
 
   kept : (key last : List ℕ) (rs : List (List ℕ)) → KeyOf key last → KeyOf (foldl (key_with sep l k) key rs) (foldl (with_one sep l k) last rs)
   unfolding key_with
   kept key last [] h = h
   kept key last (r ∷ rs) h =
-      kept (key_with sep l k key r) (with_one sep l k last r) rs (one_more_lem (eqb (kind_of sep l r) (row l k).head) (eqb (kind_of sep l r) k) key last r h)
+      kept (key_with sep l k key r) (with_one sep l k last r) rs (one_more (eqb (kind_of sep l r) (row l k).head) (eqb (kind_of sep l r) k) key last r h)
 
   -- the key before, where there is one, is that of the last record of the kind
   pub key_of_last : (before : List (List ℕ)) → KeyOf (key_before sep l before k) (last_of_kind sep l k before)

@@ -1,4 +1,3 @@
 pub mod KeyBefore
 pub mod NoDay
 pub mod Passing
-pub mod Numbering

@@ -1,10 +1,10 @@
-// What a sentence on a refusal, or on a record that was asked for, names, found in the bytes that it is about, and which refusals
-// there are. In a file bars part the fields, in a sheet tabs.
+// What a sentence on a refusal names, found in the bytes that are refused, and which refusals there are. In a file bars part
+// the fields, in a sheet tabs.
 #![tactic(auto)]
-ghost use Rattle.std.specs.Prelude.{◌≡◌, ℕ, ◌+◌, ◌≤◌, List, length};
+
+ghost use Rattle.std.specs.Prelude.{◌≡◌, ℕ, ◌+◌, List, length};
 ghost use Rattle.text.specs.Characters.{from_to};
-ghost use Rattle.record.specs.Records.{field, records};
-ghost use Rattle.place.specs.Places.{record_start};
+ghost use Rattle.record.specs.Records.{field};
 ghost use Rattle.layout.specs.Layout.{row};
 ghost use Rattle.layout.specs.Numbers.{layout_of};
 ghost use Rattle.fault.specs.Record.{kind_of};
@@ -118,13 +118,6 @@ pub fn refused_part<'a>(words: &'a [u8], number: usize) -> &'a [u8]
     text::part(words, 0, words.len())
 }
 
-// The number of the record that starts at a place of a file: one more than line feeds stand before it.
-pub fn number_at(file: &[u8], start: usize) -> usize
-    ensures { (k : ℕ) → 1 ≤ k → k ≤ length (records file.now) → start ≡ record_start file.now k → result ≡ k }
-{
-    record::count_fields(FEED, text::part(file, 0, start))
-}
-
 // How many fields a kind has, its name among them.
 pub fn field_count(t: &[u32], kind: usize) -> usize
     ensures { (fixed : List ℕ) → result ≡ length (row (layout_of t.now fixed) kind).rules + 1 }
@@ -134,11 +127,11 @@ pub fn field_count(t: &[u32], kind: usize) -> usize
 }
 
 // The greatest refusal.
-const LAST: usize = 23;
+const LAST: usize = 22;
 
 // There is a refusal n.
 pub fn is_refusal(n: usize) -> bool
-    ensures { result ≡ from_to 1 23 n }
+    ensures { result ≡ from_to 1 22 n }
 {
     if n < 1 {
         return false;

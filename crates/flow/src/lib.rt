@@ -1,5 +1,6 @@
 // The flows as constant tables, which of them a caller's words ask for, and the step of the flow table.
 #![tactic(auto)]
+
 mod tables;
 
 ghost use Rattle.std.specs.Prelude.{◌≡◌, ℕ, ◌+◌, ◌*◌, ◌≤◌, List, length};

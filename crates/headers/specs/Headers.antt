@@ -1,5 +1,5 @@
 -- What the header of a case in a stream says: the form of each case, and what can be wrong with it. Assumes nothing.
-use Rattle.std.specs.Prelude.{ℕ, ◌-◌, cond, not, List, eqb, length}
+use Rattle.std.specs.Prelude.{ℕ, ◌-◌, Bool, cond, not, List, eqb, length}
 use Rattle.text.specs.Characters.{bytes}
 use Rattle.text.specs.Rules.{must}
 use Rattle.text.specs.Order.{same_bytes}
@@ -16,6 +16,7 @@ use Rattle.headers.specs.declared.Ask.{Ask}
 use Rattle.headers.specs.declared.Ask.TheVariants as asks
 use Rattle.headers.specs.declared.Making.{Making}
 use Rattle.headers.specs.declared.Making.TheVariants.{Write, Read, Export, Import}
+use Rattle.headers.specs.declared.Case.{Case}
 use Rattle.headers.specs.declared.Fault.{Fault}
 use Rattle.headers.specs.declared.Fault.TheVariants as faults
 use Rattle.headers.specs.declared.Header.{Header}
@@ -30,7 +31,7 @@ abbrev pub number_in : Number → Fault → (ℕ → Header) → Header
 number_in (numbers.Is n) fault after = after n
 number_in numbers.Bad fault after = Bad fault
 
--- LENGTH, FIXED and ROOM for bytes; RECORD, FIELD, PERIOD and N; ROOM for entries
+-- LENGTH, FIXED and ROOM for bytes; RECORD, FIELD and PERIOD; ROOM for entries
 abbrev pub length_in : List ℕ → Number
 length_in s = number_of 10 1114112 s
 
@@ -48,9 +49,9 @@ wrong_words right h = Bad (faults.Words right (length (fields 0x09 h)))
 abbrev pub of_words : ℕ → List ℕ → Header → Header
 of_words right h after = must (eqb (length (fields 0x09 h)) right) (wrong_words right h) after
 
--- a case whose last word is the body's length; so many bytes stand before the body
+-- a case whose last word is the body's length
 abbrev pub case_of : Ask → ℕ → List ℕ → Header
-case_of ask first last = number_in (length_in last) faults.Length (λ n. Of (record { ask = ask; first = first; length = n }))
+case_of ask fixed last = number_in (length_in last) faults.Length (λ n. Of (record { ask = ask; fixed = fixed; length = n }))
 
 -- NAME LENGTH, or NAME FLOW LENGTH
 unfoldable pub plain_of : Ask → ℕ → List ℕ → Header
@@ -67,14 +68,6 @@ value_of h =
 -- period FLOW PERIOD LENGTH
 unfoldable pub period_of : List ℕ → Header
 period_of h = of_words 4 h (number_in (asked_in (word_of 3 h)) faults.Period (λ p. case_of (asks.Period p) 0 (word_of 4 h)))
-
--- force EDITION ID DATE GROUP N LENGTH LENGTH: the original stands before the resubmission
-unfoldable pub force_of : List ℕ → Header
-force_of h =
-    of_words 8 h
-    (number_in (asked_in (word_of 6 h)) faults.Nth
-    (λ n. number_in (length_in (word_of 7 h)) faults.Length
-    (λ original. case_of (asks.Force n) original (word_of 8 h))))
 
 -- NAME FLOW ROOM LENGTH, or NAME ROOM LENGTH
 unfoldable pub making_of : Making → ℕ → List ℕ → Header
@@ -119,8 +112,7 @@ case_named name h =
     (cond (same_bytes name (bytes "sum")) (plain_of asks.Sum 2 h)
     (cond (same_bytes name (bytes "step")) (plain_of asks.Step 3 h)
     (cond (same_bytes name (bytes "period")) (period_of h)
-    (cond (same_bytes name (bytes "force")) (force_of h)
-    (room_named name h)))))))
+    (room_named name h))))))
 
 -- a header: a carriage return at its end is named first, since it does not show
 unfoldable pub header_of : List ℕ → Header

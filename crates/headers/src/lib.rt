@@ -1,8 +1,9 @@
 // The header line of a case in a stream: words parted by tabs, the first of which says what the others are.
 #![tactic(auto)]
+
 ghost use Rattle.std.specs.Prelude.{◌≡◌, ◌≤◌, length};
 ghost use Rattle.record.specs.Records.{fields};
-ghost use Rattle.headers.specs.Headers.{word_of, length_in, asked_in, entries_in, wrong_words, case_of, plain_of, value_of, period_of, force_of, making_of, index_of, mark_in, form_in, field_of, room_named, case_named, header_of};
+ghost use Rattle.headers.specs.Headers.{word_of, length_in, asked_in, entries_in, wrong_words, case_of, plain_of, value_of, period_of, making_of, index_of, mark_in, form_in, field_of, room_named, case_named, header_of};
 
 use field::{FieldType, Mark};
 use record::TAB;
@@ -12,7 +13,7 @@ use words::{Form, Marked, Number};
 // The greatest LENGTH, FIXED and ROOM for bytes, so that files over the limit can be tried.
 const LENGTH_LIMIT: usize = 1114112;
 
-// The greatest RECORD, FIELD, PERIOD and N.
+// The greatest RECORD, FIELD and PERIOD.
 const ASKED_LIMIT: usize = 1000000000;
 
 // The greatest ROOM for entries of an index.
@@ -27,13 +28,12 @@ pub enum Making {
     Import,
 }
 
-// What a case asks, beside the words of its header that are taken as they are and the bytes behind it.
+// What a case asks, beside the flow in its header and the bytes behind it.
 #[derive(Clone, Copy)]
 pub enum Ask {
     Judge,
     Value { record: usize, field: usize },
     Period { period: usize },
-    Force { n: usize },
     Field { form: FieldType, mark: Mark },
     Sum,
     Step,
@@ -41,11 +41,11 @@ pub enum Ask {
     Index { room: usize },
 }
 
-// What is asked, and how many bytes are behind the header: first those of a fixed value or an original, where it has one, then the body.
+// What is asked, how many bytes of fixed value and how many of body are behind the header.
 #[derive(Clone, Copy)]
 pub struct Case {
     pub ask: Ask,
-    pub first: usize,
+    pub fixed: usize,
     pub length: usize,
 }
 
@@ -58,7 +58,6 @@ pub enum Fault {
     Record,
     Field,
     Period,
-    Nth,
     Type,
     Mark,
     Fixed,
@@ -88,7 +87,7 @@ fn read_length(digits: &[u8]) -> Number
     words::read_number(digits, 10, LENGTH_LIMIT)
 }
 
-// What is asked: a record, a field, a period, or which record in force.
+// A record, a field or a period that is asked.
 fn read_asked(digits: &[u8]) -> Number
     ensures { result ≡ asked_in digits.now }
 {
@@ -120,14 +119,14 @@ fn wrong_words(right: usize, header: &[u8]) -> Header
 }
 
 // A case with the body's length in its last word.
-fn case_of(ask: Ask, first: usize, last: &[u8]) -> Header
-    ensures { result ≡ case_of ask first last.now }
+fn case_of(ask: Ask, fixed: usize, last: &[u8]) -> Header
+    ensures { result ≡ case_of ask fixed last.now }
 {
     match read_length(last) {
         Number::Bad => Header::Bad(Fault::Length),
         Number::Is(length) => Header::Of(Case {
             ask: ask,
-            first: first,
+            fixed: fixed,
             length: length,
         }),
     }
@@ -176,22 +175,6 @@ fn read_period(header: &[u8]) -> Header
     match read_asked(word(header, 3)) {
         Number::Bad => Header::Bad(Fault::Period),
         Number::Is(period) => case_of(Ask::Period { period: period }, 0, word(header, 4)),
-    }
-}
-
-// force EDITION ID DATE GROUP N LENGTH LENGTH: the original is first, and the resubmission is the body
-fn read_force(header: &[u8]) -> Header
-    ensures { result ≡ force_of header.now }
-{
-    if count_words(header) != 8 {
-        return wrong_words(8, header);
-    }
-    match read_asked(word(header, 6)) {
-        Number::Bad => Header::Bad(Fault::Nth),
-        Number::Is(n) => match read_length(word(header, 7)) {
-            Number::Bad => Header::Bad(Fault::Length),
-            Number::Is(original) => case_of(Ask::Force { n: n }, original, word(header, 8)),
-        },
     }
 }
 
@@ -313,9 +296,6 @@ fn read_named(name: &[u8], header: &[u8]) -> Header
     }
     if same_bytes(name, b"period") {
         return read_period(header);
-    }
-    if same_bytes(name, b"force") {
-        return read_force(header);
     }
     read_room(name, header)
 }

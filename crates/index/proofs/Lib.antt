@@ -8,14 +8,6 @@ pub mod Children
 pub mod Reading
 pub mod Stored
 pub mod Cells
-pub mod Again
-pub mod Counting
-pub mod LentSlices
-pub mod FillMemory
-pub mod FillCalls
-pub mod FillExit
-pub mod StoreCalls
-pub mod StoreExit
 pub mod Examples
 pub mod OneIndex
 pub mod Nested

@@ -4,7 +4,7 @@ use Prim.Native.Nat.{ℕ, zero, suc, ◌≤◌, ◌<◌}
 use native.Mathlib.Omega.{arith}
 use mathlib.Core.Bool.{Bool, true, false}
 use mathlib.Core.List.{List, [], ◌∷◌, ◌++◌}
-use lib.ListN.{get_or, length, take, drop, set, length-set}
+use lib.ListN.{get_or, length, take, drop, set}
 use lib.Seq.{drop-cons, take-suc, take-length, length-take-le, set-append_seam, append_snoc}
 use lib.Dec.{leb}
 use borrow.Author.Tests.{leb-true}
@@ -28,10 +28,6 @@ use Rattle.index.proofs.Reading.{entry_read}
 abbrev pub storing : (ℕ → Entry) → ℕ → List Entry → List Entry
 storing e zero ys = ys
 storing e (suc n) ys = set (storing e n ys) n (e n)
-
-pub length_storing : (e : ℕ → Entry) (n : ℕ) (ys : List Entry) → length (storing e n ys) ≡ length ys
-length_storing e zero ys = refl
-length_storing e (suc n) ys = length-set (storing e n ys) n (e n) ∙ length_storing e n ys
 
 -- the entry to be stored is always the one at the seam
 one_more_lem : (es ys : List Entry) (n : ℕ) → n < length es → n < length ys → set (take n es ++ drop n ys) n (get_or es n blank) ≡ take (suc n) es ++ drop (suc n) ys

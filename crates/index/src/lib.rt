@@ -1,5 +1,6 @@
 // An index beside the file: entries in a lent list, one for each record that may have children.
 #![tactic(auto)]
+
 ghost use Rattle.std.specs.Prelude.{◌≡◌, cond, ◌++◌, ◌<◌, ◌≤◌, ◌+◌, ◌-◌, ◌*◌, ◌^◌, length, set, take, drop};
 ghost use Rattle.layout.specs.Numbers.{layout_of};
 ghost use Rattle.flow.specs.Editions.{asked};
@@ -296,7 +297,7 @@ fn store_first(list: &mut [Entry], t: &[u32], f: &[u8], n: usize)
 }
 
 // Fills a lent list with the index of a file for the flow that the words ask for. Any words, any bytes, any list. All that branches stands in
-// `begin`, as a function over a list of entries is proved by a walk of its code.
+// `begin`.
 pub fn fill(flow: &[u8], f: &[u8], list: &mut [Entry]) -> Indexed
     ensures { FilledRight (asked flow.now) f.now list.old list.new result }
 {

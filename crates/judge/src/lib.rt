@@ -1,5 +1,6 @@
 // A file judged for a flow: its records one after the other, and then its end.
 #![tactic(auto)]
+
 ghost use Rattle.std.specs.Prelude.{◌≡◌, not, ◌||◌, List, ℕ, ◌<◌, ◌≤◌, ◌^◌, ◌+◌, ◌*◌, length, set};
 ghost use Rattle.text.specs.Characters.{IsClassTable};
 ghost use Rattle.record.specs.Records.{bar};

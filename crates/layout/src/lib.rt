@@ -1,5 +1,6 @@
 // A flow as numbers and bytes that are lent, and what is read from them. Nothing is required of a table: any numbers are some layout.
 #![tactic(auto)]
+
 ghost use Rattle.std.specs.Prelude.{◌≡◌, ℕ, ◌<◌, ◌≤◌, ◌^◌, ◌+◌, ◌-◌, min, List, length};
 ghost use Rattle.text.specs.Characters.{IsClassTable};
 ghost use Rattle.field.specs.Judge.{marked, meets_mark};

@@ -1,5 +1,6 @@
 // Is a period in a P0012 file: read up to the first record that can tell, and no further.
 #![tactic(auto)]
+
 ghost use Rattle.std.specs.Prelude.{◌≡◌, false, [], ◌≤◌, length, take};
 ghost use Rattle.record.specs.Records.{records, bar};
 ghost use Rattle.layout.specs.Numbers.{layout_of};

@@ -1,5 +1,6 @@
 // The records in force of an original P0133001 file and its resubmission.
 #![tactic(auto)]
+
 ghost use Rattle.std.specs.Prelude.{◌≡◌, cond, ◌&&◌, ◌+◌, ◌≤◌, ◌<◌, ◌^◌, length};
 ghost use Rattle.layout.specs.Numbers.{layout_of};
 ghost use Rattle.flow.specs.Publication.{layout_for};

@@ -108,7 +108,7 @@ stop_on st b m s e p q h n = rw (e, p, q, add-zero n) (h n)
 
 -- the walk of one line from each state: it stops in that line, or the line is read
 record OneLine (s : List ℕ) : Type 0 where
-  at_field_lem : {st : ℕ} → Opens st → Either (StopsHere st s) (Begun s)
+  at_field : {st : ℕ} → Opens st → Either (StopsHere st s) (Begun s)
   at_plain : Either (StopsHere plain s) (PlainRest s)
   at_quoted : Either (StopsHere in_quotes s) (QuotedRest s)
   at_behind : Either (StopsHere after_quote s) (BehindRest s)
@@ -241,7 +241,7 @@ one_line : (s : List ℕ) → OneLine s
 unfolding stop_at
 one_line [] =
     record {
-      at_field_lem = field_end;
+      at_field = field_end;
       at_plain = right (unopened (line_ends end));
       at_quoted = left (λ n. refl);
       at_behind = right (closed (line_ends end));
@@ -251,7 +251,7 @@ one_line (b ∷ s) =
     let ih = one_line s in
     let k = kind b in
     record {
-      at_field_lem = λ o. field_step b s ih o k;
+      at_field = λ o. field_step b s ih o k;
       at_plain = plain_step b s ih k;
       at_quoted = quoted_step b s ih k;
       at_behind = behind_step b s ih k;

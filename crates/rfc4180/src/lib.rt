@@ -1,5 +1,6 @@
 // RFC 4180's text, comma-separated: a walk over it by states, which gives the sheet of its lines.
 #![tactic(auto)]
+
 ghost use Rattle.std.specs.Prelude.{◌≡◌, List, ℕ, ◌+◌, ◌≤◌, length, drop};
 ghost use Rattle.text.specs.Characters.{from_to};
 ghost use Rattle.sheet.specs.Code.{put};

@@ -1,7 +1,6 @@
--- The papers' answers as numbers in a lent array for callers in C: four, but eight about a record in force. Cell 0 is the refusal's
--- number, 0 where nothing is refused; of a refusal cell 1 is the record, cell 2 the field and cell 3 the byte place. A cell that says
--- nothing is 0. Assumes nothing.
-use Rattle.std.specs.Prelude.{ℕ, ◌/◌, ◌≡◌, Bool, cond, List, [], ◌∷◌, ◌++◌, leb, ℤ, pos, negsuc, nat_abs, length}
+-- The papers' answers as four numbers in a lent array, for callers in C. Cell 0 is the refusal's number, 0 where nothing is refused;
+-- of a refusal cell 1 is the record, cell 2 the field and cell 3 the byte place. A cell that says nothing is 0. Assumes nothing.
+use Rattle.std.specs.Prelude.{ℕ, ◌/◌, ◌≡◌, Bool, cond, List, [], ◌∷◌, leb, ℤ, pos, negsuc, nat_abs, length}
 use Rattle.text.specs.Rules.{must}
 use Rattle.field.specs.Judge as fields
 use Rattle.field.specs.Codes.{type_coded, mark_coded}
@@ -10,7 +9,6 @@ use Rattle.flow.specs.Step as steps
 use Rattle.judge.specs.File as files
 use Rattle.index.specs.Entries as indexes
 use Rattle.period.specs.Answer as periods
-use Rattle.resubmission.specs.InForce as forces
 use Rattle.value.specs.Value as values
 use Rattle.sheet.specs.Sheets.{made, sheet_of}
 use Rattle.sheet.specs.Write as writing
@@ -91,15 +89,6 @@ value_cells (values.text from to bytes) = text_cells from to
 abbrev pub period_cells : periods.Reply → List ℕ
 period_cells (periods.refused number r f place) = refusal_cells number r f place
 period_cells (periods.truth b) = truth_cells b
-
--- a record in force: behind a refusal's cells come the file that it is about in cell 4 and the number in force in cell 5; else cell 4 is
--- the file that holds the record, and the record starts at cell 6 and ends at cell 7
-abbrev pub withheld_cells : ℕ → ℕ → ℕ → ℕ → ℕ → ℕ → List ℕ
-withheld_cells number r f place file count = refusal_cells number r f place ++ file ∷ count ∷ 0 ∷ 0 ∷ []
-
-abbrev pub in_force_cells : forces.Reply → List ℕ
-in_force_cells (forces.refused number r f place file count) = withheld_cells number r f place file count
-in_force_cells (forces.part file number start end) = 0 ∷ 0 ∷ 0 ∷ 0 ∷ file ∷ number ∷ start ∷ end ∷ []
 
 -- judging one field's bytes: a text is all of them
 abbrev pub field_cells : fields.Reply → List ℕ

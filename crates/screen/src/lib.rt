@@ -1,5 +1,5 @@
-// The twelve public parts under C names. An answer is four numbers in a lent array, that about a record in force eight:
-// include/screen.h says what each cell holds. A flow is asked for by words: its name, or that, a space and an edition.
+// The eleven public parts under C names. An answer is four numbers in a lent array: include/screen.h says what each cell holds.
+// A flow is asked for by words: its name, or that, a space and an edition.
 #![tactic(auto)]
 ghost use Rattle.std.specs.Prelude.{◌≡◌, List, ℕ, length};
 ghost use Rattle.checksum.specs.Checksum.{checksum_of};
@@ -10,11 +10,9 @@ ghost use Rattle.flow.specs.Step.{paper as step_paper};
 ghost use Rattle.index.specs.Entries.{paper as index_paper};
 ghost use Rattle.judge.specs.File.{judged, paper as judge_paper};
 ghost use Rattle.period.specs.Answer.{has_period, paper as period_paper};
-ghost use Rattle.resubmission.specs.Rows.{pair};
-ghost use Rattle.resubmission.specs.InForce.{words_in, in_force, paper as force_paper};
 ghost use Rattle.sheet.specs.Write.{paper as transfer_paper};
 ghost use Rattle.value.specs.Value.{valued, paper as value_paper};
-ghost use Rattle.screen.specs.Numbers.{refusal_cells, judge_cells, transfer_cells, WroteCells, ReadCells, ExportedCells, ImportedCells, flag_of, number_cells, value_cells, period_cells, withheld_cells, in_force_cells, field_cells, field_asked, step_cells, Stepped, index_cells, FilledCells};
+ghost use Rattle.screen.specs.Numbers.{refusal_cells, judge_cells, transfer_cells, WroteCells, ReadCells, ExportedCells, ImportedCells, flag_of, number_cells, value_cells, period_cells, field_cells, field_asked, step_cells, Stepped, index_cells, FilledCells};
 
 use field::{FieldType, Mark};
 use flow::StepAnswer;
@@ -22,7 +20,6 @@ use index::Indexed;
 use judge::Judged;
 use period::Answer;
 use place::Refusal;
-use resubmission::{InForce, file_number};
 use sheet::Transfer;
 use value::Value;
 
@@ -153,64 +150,6 @@ pub extern "C" fn screen_period(flow: &[u8], file: &[u8], period: usize, answer:
     ensures { answer.new ≡ period_cells (has_period (asked flow.now) file.now period) }
 {
     *answer = period_cells(period::has(flow, file, period));
-}
-
-// A refusal, the file that it is about and the number in force.
-fn withheld_cells(r: Refusal, file: u64, number: u64) -> [u64; 8]
-    ensures { result ≡ withheld_cells r.number r.record r.field r.place file number }
-{
-    let cells = refusal_cells(r);
-    [cells[0], cells[1], cells[2], cells[3], file, number, 0, 0]
-}
-
-// What is said of a record in force.
-fn in_force_cells(a: InForce) -> [u64; 8]
-    ensures { result ≡ in_force_cells (force_paper a) }
-{
-    match a {
-        InForce::Refused { refusal, file } => withheld_cells(refusal, file_number(file) as u64, 0),
-        InForce::NoSuch { refusal, number } => withheld_cells(refusal, 0, number as u64),
-        InForce::Found {
-            file,
-            number,
-            start,
-            end,
-        } => [
-            0,
-            0,
-            0,
-            0,
-            file_number(file) as u64,
-            number as u64,
-            start as u64,
-            end as u64,
-        ],
-    }
-}
-
-// Says where the n-th record in force stands, of an original and a resubmission for a participant id, a period end date and a GSP Group.
-#[unsafe(no_mangle)]
-pub extern "C" fn screen_in_force(
-    edition: &[u8],
-    original: &[u8],
-    resubmission: &[u8],
-    id: &[u8],
-    date: &[u8],
-    group: &[u8],
-    n: usize,
-    answer: &mut [u64; 8],
-)
-    ensures { answer.new ≡ in_force_cells (in_force (asked (words_in edition.now)) original.now resubmission.now (pair id.now date.now group.now) n) }
-{
-    *answer = in_force_cells(resubmission::in_force(
-        edition,
-        original,
-        resubmission,
-        id,
-        date,
-        group,
-        n,
-    ));
 }
 
 // The type of a code, with its widths.

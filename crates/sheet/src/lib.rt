@@ -1,5 +1,6 @@
 // Sheets: a file written from one, and one read from a file.
 #![tactic(auto)]
+
 ghost use Rattle.std.specs.Prelude.{◌≡◌, ◌||◌, List, ◌++◌, ◌∷◌, [], ℕ, ◌+◌, ◌-◌, ◌≤◌, ◌<◌, eqb, length, take, drop};
 ghost use Rattle.record.specs.Records.{records, turned_byte, turned, joined, holds};
 ghost use Rattle.number.specs.Numbers.{decimal};

@@ -1,5 +1,6 @@
 // The value of one field of a file.
 #![tactic(auto)]
+
 ghost use Rattle.std.specs.Prelude.{◌≡◌, List, ℕ, ◌≤◌};
 ghost use Rattle.layout.specs.Numbers.{layout_of};
 ghost use Rattle.flow.specs.Editions.{asked};

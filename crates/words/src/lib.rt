@@ -1,5 +1,6 @@
 // The words that people write: one of several, a number, a type in document 01's spelling, a mark.
 #![tactic(auto)]
+
 ghost use Rattle.std.specs.Prelude.{◌≡◌, ◌+◌, ◌*◌, leb};
 ghost use Rattle.text.specs.Characters.{is_digit};
 ghost use Rattle.record.specs.Records.{field};

@@ -11,23 +11,22 @@ pub mod heads;
 pub mod keys;
 pub mod parts;
 pub mod periods;
-pub mod resubmissions;
 pub mod sweep;
 pub mod texts;
 pub mod values;
 pub mod words;
 
-use crate::bytes::{fields_of, records_of, TAB};
+use crate::bytes::{fields_of, records_of};
 use crate::csv::{imported, made_text};
 use crate::sheet::{made_file, made_sheet};
 use crate::stream::{ASKED_LIMIT, CASE_KINDS, ENTRIES_LIMIT, LENGTH_LIMIT};
 use dice::Dice;
 use files::{given, Given};
-use resubmissions::OwnPair;
-use sweep::{swept, swept_field, swept_period, swept_resubmission, swept_text, Swept};
+use periods::Asked;
+use sweep::{swept, swept_field, swept_period, swept_text, Swept};
 
 /// What comes in one round: each kind of case, so many by the dice, so many from a sweep.
-const ROUND: [(&str, usize, usize); 12] = [
+const ROUND: [(&str, usize, usize); 11] = [
     ("judge", 8, 2),
     ("value", 3, 1),
     ("field", 4, 2),
@@ -39,7 +38,6 @@ const ROUND: [(&str, usize, usize); 12] = [
     ("export", 3, 1),
     ("import", 5, 2),
     ("period", 6, 2),
-    ("force", 6, 2),
 ];
 
 /// One place in a round.
@@ -101,8 +99,7 @@ impl Generator {
             "index" => index_case(turn, dice),
             "export" => export_case(turn, dice),
             "import" => import_case(turn, dice),
-            "period" => period_case(turn, dice),
-            _ => force_case(turn, dice),
+            _ => period_case(turn, dice),
         }
     }
 
@@ -124,11 +121,11 @@ impl Generator {
     }
 }
 
-/// The sweep of a kind of case: files and sheets share one; single fields, texts, files asked for a
-/// period and resubmissions have their own.
+/// The sweep of a kind of case: files and sheets share one; single fields, texts and files asked for a
+/// period have their own.
 fn sweep_of(kind: &str) -> &str {
     match kind {
-        "field" | "import" | "period" | "force" => kind,
+        "field" | "import" | "period" => kind,
         _ => "file",
     }
 }
@@ -145,7 +142,7 @@ fn field_case(turn: Option<usize>, dice: &mut Dice) -> Vec<u8> {
         None => parts::field(dice),
     };
     let words = format!("\t{}\t{}", case.mark, case.fixed.len());
-    with_first(&case.fixed, &case.bytes, written(b"field", case.form.as_bytes(), &words, &case.bytes))
+    with_fixed(written(b"field", case.form.as_bytes(), &words, &case.bytes), &case)
 }
 
 /// One in so many of the files that are read is at its limit.
@@ -190,23 +187,11 @@ fn import_case(turn: Option<usize>, dice: &mut Dice) -> Vec<u8> {
 }
 
 fn period_case(turn: Option<usize>, dice: &mut Dice) -> Vec<u8> {
-    let periods::Asked { given: Given { flow, bytes }, period } = match turn {
+    let Asked { given: Given { flow, bytes }, period } = match turn {
         Some(turn) => swept_period(turn, dice),
         None => periods::asked(dice),
     };
     written(b"period", &flow, &format!("\t{}", period), &bytes)
-}
-
-fn force_case(turn: Option<usize>, dice: &mut Dice) -> Vec<u8> {
-    let asked = match turn {
-        Some(turn) => swept_resubmission(turn, dice),
-        None => resubmissions::asked(dice),
-    };
-    let OwnPair { id, date, group } = asked.pair;
-    let first = [asked.edition, id, date, group].join(&TAB);
-    let words = format!("\t{}\t{}", asked.n, length(&asked.original));
-    let last = asked.resubmission;
-    with_first(&asked.original, &last, written(b"force", &first, &words, &last))
 }
 
 /// A file, with the record and field that the sweep changed if it did.
@@ -232,20 +217,15 @@ fn sheet(turn: Option<usize>, dice: &mut Dice) -> Given {
 
 /// A case: its name, a first word, the other words, the body's length and the body.
 fn written(name: &[u8], first: &[u8], words: &str, body: &[u8]) -> Vec<u8> {
-    let end = format!("{}\t{}\n", words, length(body));
+    assert!(body.len() <= LENGTH_LIMIT, "a body that no header can state");
+    let end = format!("{}\t{}\n", words, body.len());
     [name, b"\t", first, end.as_bytes(), body].concat()
 }
 
-/// The length of a body, as a header states it.
-fn length(body: &[u8]) -> usize {
-    assert!(body.len() <= LENGTH_LIMIT, "a body that no header can state");
-    body.len()
-}
-
-/// Puts a first body between the header and the last body, which was written behind it.
-fn with_first(first: &[u8], last: &[u8], mut written: Vec<u8>) -> Vec<u8> {
-    let place = written.len() - last.len();
-    written.splice(place..place, first.iter().copied());
+/// Puts the fixed value between the header and the field's bytes.
+fn with_fixed(mut written: Vec<u8>, case: &parts::FieldCase) -> Vec<u8> {
+    let place = written.len() - case.bytes.len();
+    written.splice(place..place, case.fixed.iter().copied());
     written
 }
 

@@ -1,14 +1,12 @@
 //! Sweeps: cases that go through all there is in turn, so that a few thousand of them leave
 //! nothing out, whatever the dice say. One sweep is over every field of every flow, two are over
-//! every byte in a single field and in a text, one is over every period, and one is over what an
-//! original and a resubmission may have of a pair.
+//! every byte in a single field and in a text, and one is over every period.
 
 use super::dice::Dice;
-use super::draft::{Draft, Fields};
+use super::draft::Draft;
 use super::files::given;
 use super::parts::{held_type, FieldCase};
-use super::periods::{self, ROWS};
-use super::resubmissions::{self, any_pair, other_pair, record_for, OwnPair, EDITION_WORDS};
+use super::periods::{self, Asked, ROWS};
 use super::texts::Text;
 use super::values::{bad_form, bad_range, good, one_too_wide, widest};
 use crate::field::{Mark, Type};
@@ -108,7 +106,7 @@ const HAVE: [fn(usize, usize) -> bool; 6] = [
 
 /// A file asked for each period in turn, which it has or not, with others below it and above it or not;
 /// then all of these once more, ending behind their rows.
-pub fn swept_period(turn: usize, dice: &mut Dice) -> periods::Asked {
+pub fn swept_period(turn: usize, dice: &mut Dice) -> Asked {
     let (asked, has) = (turn % PERIODS, HAVE[turn / PERIODS % HAVE.len()]);
     let kind = dice.pick(&ROWS);
     let own = (1..=50).filter(|&own| has(own, asked));
@@ -118,53 +116,5 @@ pub fn swept_period(turn: usize, dice: &mut Dice) -> periods::Asked {
     if turn / (PERIODS * HAVE.len()) % 2 == 1 {
         draft.records.pop();
     }
-    periods::Asked { given: given(&draft, draft.file(), dice), period: asked }
-}
-
-/// A set of a swept file: whether its subject is the asked one, and whether each row's group is.
-type Sketch = (bool, &'static [bool]);
-
-/// What a file may have of a pair: nothing, its group under another subject, its subject without rows,
-/// its subject with another group, and then one row, several, and rows under a repeated subject.
-const OF_A_PAIR: [&[Sketch]; 7] = [
-    &[],
-    &[(false, &[true])],
-    &[(true, &[])],
-    &[(true, &[false])],
-    &[(true, &[true])],
-    &[(false, &[true]), (true, &[true, false, true])],
-    &[(true, &[true]), (false, &[true, true]), (true, &[]), (true, &[false, true, true])],
-];
-
-/// Which record is asked for, by the number in force.
-const NTHS: [fn(usize) -> usize; 4] = [|_| 0, |_| 1, |number| number, |number| number + 1];
-
-/// Each of these in an original with each in a resubmission, asked for each record, in each edition.
-pub fn swept_resubmission(turn: usize, dice: &mut Dice) -> resubmissions::Asked {
-    let kinds = OF_A_PAIR.len();
-    let (of_original, of_resubmission) = (OF_A_PAIR[turn % kinds], OF_A_PAIR[turn / kinds % kinds]);
-    let nth = NTHS[turn / (kinds * kinds) % NTHS.len()];
-    let edition = EDITION_WORDS[turn / (kinds * kinds * NTHS.len()) % EDITION_WORDS.len()];
-    let pair = any_pair(dice);
-    let other = other_pair(&pair, dice);
-    let flow = resubmissions::flow(edition);
-    let original = sketched(of_original, &pair, &other, flow, dice).file();
-    let resubmission = sketched(of_resubmission, &pair, &other, flow, dice).file();
-    let edition = edition.as_bytes().to_vec();
-    let mut asked = resubmissions::Asked { edition, pair, n: 0, original, resubmission };
-    asked.n = nth(asked.number());
-    asked
-}
-
-/// A good draft with these sets.
-fn sketched(sets: &[Sketch], pair: &OwnPair, other: &OwnPair, flow: &'static Flow, dice: &mut Dice) -> Draft {
-    let of = |is_own: bool| if is_own { pair } else { other };
-    let mut records: Vec<Fields> = Vec::new();
-    for (is_own, rows) in sets {
-        records.push(record_for(of(*is_own), b"SB1", flow, dice));
-        records.extend(rows.iter().map(|is_own| record_for(of(*is_own), b"CM1", flow, dice)));
-    }
-    let mut draft = Draft::good(flow, 0, dice);
-    draft.put_last(records);
-    draft
+    Asked { given: given(&draft, draft.file(), dice), period: asked }
 }

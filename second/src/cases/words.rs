@@ -54,7 +54,7 @@ fn odd_name(dice: &mut Dice) -> Vec<u8> {
 }
 
 /// What is no edition, most of it near to one.
-pub fn odd_edition(dice: &mut Dice) -> Vec<u8> {
+fn odd_edition(dice: &mut Dice) -> Vec<u8> {
     let own = dice.pick(&EDITIONS).as_bytes();
     match dice.below(11) {
         0 => Vec::new(),

@@ -28,7 +28,7 @@ returns-then-old-eq0 c =
 
 pub returns-then-keys_in_order : goal.returns-then-keys_in_order
 returns-then-keys_in_order c =
-    let in_order_lem : (fixed : List ℕ) →     let a = c.args in     let l = layout_of a.t.now fixed in     c.keys_in_order.result ≡ keys_in_order (row l a.k).repeats (key_order (key_type l a.k) (key_in_slots l a.file.now a.slots.now a.k) a.key.now) = λ fixed. let a = c.args in
+    let in_order_lem : (fixed : List ℕ) → let a = c.args in let l = layout_of a.t.now fixed in c.keys_in_order.result ≡ keys_in_order (row l a.k).repeats (key_order (key_type l a.k) (key_in_slots l a.file.now a.slots.now a.k) a.key.now) = λ fixed. let a = c.args in
     c.keys_in_order.ensures fixed
     ∙ ap (keys_in_order (row (layout_of a.t.now fixed) a.k).repeats)
     (c.key_order.ensures ∙ (λ i. key_order (c.key_type.ensures fixed i) (c.key_before-old.ensures fixed i) a.key.now)) in
@@ -40,7 +40,7 @@ returns-then-keys_in_order c =
 
 pub returns : goal.returns
 returns c =
-    let in_order_lem : (fixed : List ℕ) →     let a = c.args in     let l = layout_of a.t.now fixed in     c.keys_in_order.result ≡ keys_in_order (row l a.k).repeats (key_order (key_type l a.k) (key_in_slots l a.file.now a.slots.now a.k) a.key.now) = λ fixed. let a = c.args in
+    let in_order_lem : (fixed : List ℕ) → let a = c.args in let l = layout_of a.t.now fixed in c.keys_in_order.result ≡ keys_in_order (row l a.k).repeats (key_order (key_type l a.k) (key_in_slots l a.file.now a.slots.now a.k) a.key.now) = λ fixed. let a = c.args in
     c.keys_in_order.ensures fixed
     ∙ ap (keys_in_order (row (layout_of a.t.now fixed) a.k).repeats)
     (c.key_order.ensures ∙ (λ i. key_order (c.key_type.ensures fixed i) (c.key_before-old.ensures fixed i) a.key.now)) in

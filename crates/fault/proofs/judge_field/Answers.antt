@@ -20,14 +20,14 @@ returns-then-s-eq0 c =
 
 pub returns-then-number-ne0 : goal.returns-then-number-ne0
 returns-then-number-ne0 c =
-    let typed : let a = c.args in     c.refusal-number.result ≡ refusal_of (filled_by (rule_of a.t.now a.fixed.now a.p) a.s.now) = c.refusal-number.ensures ∙ ap refusal_of (c.judge_filled.ensures c.args.fixed.now) in
+    let typed : let a = c.args in c.refusal-number.result ≡ refusal_of (filled_by (rule_of a.t.now a.fixed.now a.p) a.s.now) = c.refusal-number.ensures ∙ ap refusal_of (c.judge_filled.ensures c.args.fixed.now) in
     let a = c.args in
     let is = typed in
     is ∙ type_wrong (rule_of a.t.now a.fixed.now a.p) a.s.now c.if-s-eq0.false (λ z. c.if-number-ne0.true (is ∙ z))
 
 pub returns-then-not-meets_mark : goal.returns-then-not-meets_mark
 returns-then-not-meets_mark c =
-    let typed : let a = c.args in     c.refusal-number.result ≡ refusal_of (filled_by (rule_of a.t.now a.fixed.now a.p) a.s.now) = c.refusal-number.ensures ∙ ap refusal_of (c.judge_filled.ensures c.args.fixed.now) in
+    let typed : let a = c.args in c.refusal-number.result ≡ refusal_of (filled_by (rule_of a.t.now a.fixed.now a.p) a.s.now) = c.refusal-number.ensures ∙ ap refusal_of (c.judge_filled.ensures c.args.fixed.now) in
     let a = c.args in
     let is = typed in
     mark_wrong (rule_of a.t.now a.fixed.now a.p) a.s.now c.if-s-eq0.false
@@ -35,7 +35,7 @@ returns-then-not-meets_mark c =
 
 pub returns : goal.returns
 returns c =
-    let typed : let a = c.args in     c.refusal-number.result ≡ refusal_of (filled_by (rule_of a.t.now a.fixed.now a.p) a.s.now) = c.refusal-number.ensures ∙ ap refusal_of (c.judge_filled.ensures c.args.fixed.now) in
+    let typed : let a = c.args in c.refusal-number.result ≡ refusal_of (filled_by (rule_of a.t.now a.fixed.now a.p) a.s.now) = c.refusal-number.ensures ∙ ap refusal_of (c.judge_filled.ensures c.args.fixed.now) in
     let a = c.args in
     let is = typed in
     field_right (rule_of a.t.now a.fixed.now a.p) a.s.now c.if-s-eq0.false

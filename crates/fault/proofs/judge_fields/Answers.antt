@@ -22,7 +22,7 @@ returns-in-Done c =
 
 pub returns-then-number-ne0 : goal.returns-then-number-ne0
 returns-then-number-ne0 c =
-    let stepped : let a = c.args in     IsField a.sep a.r.now c.loop-f.c.at c.in-Field.start c.in-Field.end c.in-Field.next.at = c.in-Field.ensures in
+    let stepped : let a = c.args in IsField a.sep a.r.now c.loop-f.c.at c.in-Field.start c.in-Field.end c.in-Field.next.at = c.in-Field.ensures in
     let a = c.args in
     let s = stepped in
     shape_wrong (eqb (length (fields a.sep a.r.now)) (a.n + 1)) a.sep a.key (rules_from a.t.now a.fixed.now a.p a.n) a.r.now c.judge_field-number.result (c.loop-f.f + 2) c.field_wrong.ensures
@@ -30,7 +30,7 @@ returns-then-number-ne0 c =
 
 pub loop-f-preserved : goal.loop-f-preserved
 loop-f-preserved c =
-    let stepped : let a = c.args in     IsField a.sep a.r.now c.loop-f.c.at c.in-Field.start c.in-Field.end c.in-Field.next.at = c.in-Field.ensures in
+    let stepped : let a = c.args in IsField a.sep a.r.now c.loop-f.c.at c.in-Field.start c.in-Field.end c.in-Field.next.at = c.in-Field.ensures in
     let a = c.args in
     let k = c.keep-found-in-Field.ensures in
     reading_next a.t.now a.fixed.now a.p a.n a.sep a.key a.r.now c.loop-f.invariant stepped c.loop-f-test.true c.judge_field-number.ensures c.if-number-ne0.false k.0 k.1

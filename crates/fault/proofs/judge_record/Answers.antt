@@ -36,7 +36,7 @@ check_shape-requires c =
 
 pub close_record-requires : goal.close_record-requires
 close_record-requires c =
-    let shaped : (bytes : List ℕ) →     let a = c.args in     ShapeRight a.sep (row (layout_of a.t.now bytes) c.kind_of-k.result).key (row (layout_of a.t.now a.fixed.now) c.kind_of-k.result).rules a.r.now (Right c.in-Right.key) = λ bytes. rw c.in-Right.is at (c.check_shape.ensures bytes) in
+    let shaped : (bytes : List ℕ) → let a = c.args in ShapeRight a.sep (row (layout_of a.t.now bytes) c.kind_of-k.result).key (row (layout_of a.t.now a.fixed.now) c.kind_of-k.result).rules a.r.now (Right c.in-Right.key) = λ bytes. rw c.in-Right.is at (c.check_shape.ensures bytes) in
     (c.requires.0, c.kind_of-k.ensures.1, λ bytes. (shaped bytes).1)
 
 pub returns-in-Wrong : goal.returns-in-Wrong
@@ -49,7 +49,7 @@ returns-in-Wrong c =
 
 pub returns-in-Right : goal.returns-in-Right
 returns-in-Right c =
-    let shaped : (bytes : List ℕ) →     let a = c.args in     ShapeRight a.sep (row (layout_of a.t.now bytes) c.kind_of-k.result).key (row (layout_of a.t.now a.fixed.now) c.kind_of-k.result).rules a.r.now (Right c.in-Right.key) = λ bytes. rw c.in-Right.is at (c.check_shape.ensures bytes) in
+    let shaped : (bytes : List ℕ) → let a = c.args in ShapeRight a.sep (row (layout_of a.t.now bytes) c.kind_of-k.result).key (row (layout_of a.t.now a.fixed.now) c.kind_of-k.result).rules a.r.now (Right c.in-Right.key) = λ bytes. rw c.in-Right.is at (c.check_shape.ensures bytes) in
     let a = c.args in
     let fixed = a.fixed.now in
     let l = layout_of a.t.now fixed in

@@ -8,7 +8,7 @@ use Rattle.fault.proofs.kind_of.Goals as goal
 
 pub returns-in-Field : goal.returns-in-Field
 returns-in-Field c =
-    let stepped : let a = c.args in     IsField a.sep a.r.now 0 c.in-Field.start c.in-Field.end c.in-Field.next.at = c.in-Field.ensures in
+    let stepped : let a = c.args in IsField a.sep a.r.now 0 c.in-Field.start c.in-Field.end c.in-Field.next.at = c.in-Field.ensures in
     let a = c.args in
     let k = c.kind_named.ensures in
     (λ fixed. k.0 fixed ∙ ap (kind_named (layout_of a.t.now fixed)) (first_is a.sep a.r.now stepped), k.1)

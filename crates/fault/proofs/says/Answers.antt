@@ -21,7 +21,7 @@ returns-in_default c =
 
 pub returns : goal.returns
 returns c =
-    let here : let a = c.args in     IsPart a.r.now c.in-At.start c.in-At.end (field a.sep a.k a.r.now) = let a = c.args in
+    let here : let a = c.args in IsPart a.r.now c.in-At.start c.in-At.end (field a.sep a.k a.r.now) = let a = c.args in
     field_stands a.sep a.k a.r.now (c.in-At.ensures) in
     let a = c.args in
     c.spells.ensures ∙ ap (spelled a.v) here.is

@@ -26,18 +26,18 @@ returns-then-d-eq48 c =
 pub returns-then-n-d : goal.returns-then-n-d
 returns-then-n-d c =
     let sign : (c.args.below && eqb (get_or c.args.d.now 0 0) 48) ≡ false =
-        elim c.if-below.branch [ then-below+else-d-eq48 w ↦ simp (w.if-below.true, ne_eqb _ _ w.if-d-eq48.false) | else-below w ↦ simp w.if-below.false ] in
+    elim c.if-below.branch [ then-below+else-d-eq48 w ↦ simp (w.if-below.true, ne_eqb _ _ w.if-d-eq48.false) | else-below w ↦ simp w.if-below.false ] in
     let lead : leads c.args.d.now ≡ true = sym c.leads_right.ensures ∙ c.if-not-leads_right.false in
     let a = c.args in
     c.too_long.ensures ∙ sym (int_long a.below a.n a.d.now lead sign c.if-n-d.true)
 
 pub signed_digits-requires : goal.signed_digits-requires
-signed_digits-requires c =     room_18 c.args.d.now (omega (arith, c.requires, c.if-n-d.false))
+signed_digits-requires c = room_18 c.args.d.now (omega (arith, c.requires, c.if-n-d.false))
 
 pub returns : goal.returns
 returns c =
     let sign : (c.args.below && eqb (get_or c.args.d.now 0 0) 48) ≡ false =
-        elim c.if-below.branch [ then-below+else-d-eq48 w ↦ simp (w.if-below.true, ne_eqb _ _ w.if-d-eq48.false) | else-below w ↦ simp w.if-below.false ] in
+    elim c.if-below.branch [ then-below+else-d-eq48 w ↦ simp (w.if-below.true, ne_eqb _ _ w.if-d-eq48.false) | else-below w ↦ simp w.if-below.false ] in
     let lead : leads c.args.d.now ≡ true = sym c.leads_right.ensures ∙ c.if-not-leads_right.false in
     let a = c.args in
     c.signed_digits.ensures ∙ sym (int_short a.below a.n a.d.now lead sign c.if-n-d.false)

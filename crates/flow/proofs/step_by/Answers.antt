@@ -6,10 +6,9 @@ pub returns-in-Stopped : goal.returns-in-Stopped
 returns-in-Stopped c fixed = (sym c.in-Stopped.is ∙ c.walk.ensures fixed, refl)
 
 pub returns-in-Through : goal.returns-in-Through
-returns-in-Through c fixed =
- (
-      c.in-Through.last,
-      sym c.in-Through.is ∙ c.walk.ensures fixed,
-      c.put_followers-count.ensures fixed,
-      c.is_footer.ensures fixed,
-    )
+returns-in-Through c fixed = (
+  c.in-Through.last,
+  sym c.in-Through.is ∙ c.walk.ensures fixed,
+  c.put_followers-count.ensures fixed,
+  c.is_footer.ensures fixed,
+)

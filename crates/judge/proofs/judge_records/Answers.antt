@@ -35,7 +35,7 @@ pub put-requires : goal.put-requires
 put-requires c =
     let stepped : IsRecord c.args.f.now c.loop-start.records.at c.in-Record.start c.in-Record.end c.in-Record.next.at = c.in-Record.ensures in
     let found : List ℕ = take (c.in-Record.end - c.in-Record.start) (drop c.in-Record.start c.args.f.now) in
-    let passed : let a = c.args in     let l = c.loop-start in     let g = layout_of a.t.now a.fixed.now in     Passed a.sep g l.st (key_in_slots g a.f.now l.slots) found c.in-Pass.after c.in-Pass.key_from c.in-Pass.key_to = c.in-Pass.ensures in
+    let passed : let a = c.args in let l = c.loop-start in let g = layout_of a.t.now a.fixed.now in Passed a.sep g l.st (key_in_slots g a.f.now l.slots) found c.in-Pass.after c.in-Pass.key_from c.in-Pass.key_to = c.in-Pass.ensures in
     let small : c.in-Pass.after.last ≤ 32 = let s = stepped in
     let l = c.loop-start in
     let a = c.args in
@@ -47,8 +47,8 @@ pub loop-start-preserved : goal.loop-start-preserved
 loop-start-preserved c =
     let stepped : IsRecord c.args.f.now c.loop-start.records.at c.in-Record.start c.in-Record.end c.in-Record.next.at = c.in-Record.ensures in
     let found : List ℕ = take (c.in-Record.end - c.in-Record.start) (drop c.in-Record.start c.args.f.now) in
-    let passed : let a = c.args in     let l = c.loop-start in     let g = layout_of a.t.now a.fixed.now in     Passed a.sep g l.st (key_in_slots g a.f.now l.slots) found c.in-Pass.after c.in-Pass.key_from c.in-Pass.key_to = c.in-Pass.ensures in
-    let after : let a = c.args in     let l = c.loop-start in     Kept a.sep (layout_of a.t.now a.fixed.now) a.f.now c.in-Pass.after (put_in l.slots c.in-Pass.after.last c.in-Pass.after.count (c.in-Record.start + c.in-Pass.key_from) (c.in-Pass.key_to - c.in-Pass.key_from)) c.in-Record.next.at = let s = stepped in
+    let passed : let a = c.args in let l = c.loop-start in let g = layout_of a.t.now a.fixed.now in Passed a.sep g l.st (key_in_slots g a.f.now l.slots) found c.in-Pass.after c.in-Pass.key_from c.in-Pass.key_to = c.in-Pass.ensures in
+    let after : let a = c.args in let l = c.loop-start in Kept a.sep (layout_of a.t.now a.fixed.now) a.f.now c.in-Pass.after (put_in l.slots c.in-Pass.after.last c.in-Pass.after.count (c.in-Record.start + c.in-Pass.key_from) (c.in-Pass.key_to - c.in-Pass.key_from)) c.in-Record.next.at = let s = stepped in
     let a = c.args in
     let l = c.loop-start in
     kept_next a.sep (layout_of a.t.now a.fixed.now) a.f.now l.st l.slots l.records.at l.invariant

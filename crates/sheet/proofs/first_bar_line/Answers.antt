@@ -14,14 +14,14 @@ returns-in-Done c =
 
 pub returns-then-has_byte : goal.returns-then-has_byte
 returns-then-has_byte c =
-    let stepped : let at-loop = c in     IsRecord at-loop.before.before.args.sheet.now at-loop.loop.c.at c.in-Record.start c.in-Record.end c.in-Record.next.at = c.in-Record.ensures in
+    let stepped : IsRecord c.args.sheet.now c.loop-start.c.at c.in-Record.start c.in-Record.end c.in-Record.next.at = c.in-Record.ensures in
     let s = stepped in
     let l = c.loop-start in
     bar_here l.passed _ _ _ s.splits (sym c.has_byte.ensures ∙ c.if-has_byte.true) ∙ l.invariant.2
 
 pub loop-start-preserved : goal.loop-start-preserved
 loop-start-preserved c =
-    let stepped : let at-loop = c in     IsRecord at-loop.before.before.args.sheet.now at-loop.loop.c.at c.in-Record.start c.in-Record.end c.in-Record.next.at = c.in-Record.ensures in
+    let stepped : IsRecord c.args.sheet.now c.loop-start.c.at c.in-Record.start c.in-Record.end c.in-Record.next.at = c.in-Record.ensures in
     let s = stepped in
     let l = c.loop-start in (
       omega (arith, s.onward),

@@ -18,7 +18,7 @@ loop-i-init c =
 
 pub loop-i-preserved : goal.loop-i-preserved
 loop-i-preserved c =
-    let next : let a = c.args in     let l = c.loop-i in     Goes a.out.now a.at (turned a.from a.to a.s.now) l.out (a.at + l.i)     (c.turn.result ∷ turned a.from a.to (drop (l.i + 1) a.s.now)) = let a = c.args in
+    let next : let a = c.args in let l = c.loop-i in Goes a.out.now a.at (turned a.from a.to a.s.now) l.out (a.at + l.i) (c.turn.result ∷ turned a.from a.to (drop (l.i + 1) a.s.now)) = let a = c.args in
     let l = c.loop-i in
     let is = turned_next a.from a.to a.s.now l.i (omega arith) in
     let here = goes_as l.invariant.1 is in

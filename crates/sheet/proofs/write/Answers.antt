@@ -8,7 +8,7 @@ use Rattle.sheet.proofs.Handing.{wrote_no_flow, wrote_for}
 use Rattle.sheet.proofs.write.Goals as goal
 
 pub write_by-requires : goal.write_by-requires
-write_by-requires c =     subst ProperFooter (sym c.table_of-table.ensures) (held_proper c.in-Flow.n).footer
+write_by-requires c = subst ProperFooter (sym c.table_of-table.ensures) (held_proper c.in-Flow.n).footer
 
 pub returns-in-Refused : goal.returns-in-Refused
 returns-in-Refused c =

@@ -18,7 +18,7 @@ returns-in_default c =
 
 pub returns-in_default-field_at : goal.returns-in_default-field_at
 returns-in_default-field_at c =
-    let here : let a = c.args in     Stands (records a.f.now) a.f.now a.n c.in-At.start c.in-At.end = c.in-At.ensures in
+    let here : let a = c.args in Stands (records a.f.now) a.f.now a.n c.in-At.start c.in-At.end = c.in-At.ensures in
     let a = c.args in
     let l = layout_of a.t.now a.fixed.now in
     ap Refused c.at-in_default-field_at.ensures
@@ -26,16 +26,16 @@ returns-in_default-field_at c =
 
 pub returns-then-k-eq1 : goal.returns-then-k-eq1
 returns-then-k-eq1 c =
-    let here : let a = c.args in     Stands (records a.f.now) a.f.now a.n c.in-At.start c.in-At.end = c.in-At.ensures in
-    let inside : let a = c.args in     let r = take (c.in-At.end - c.in-At.start) (drop c.in-At.start a.f.now) in     Stands (fields bar r) r a.k c.in-At-field_at.a c.in-At-field_at.e = c.in-At-field_at.ensures in
+    let here : let a = c.args in Stands (records a.f.now) a.f.now a.n c.in-At.start c.in-At.end = c.in-At.ensures in
+    let inside : let a = c.args in let r = take (c.in-At.end - c.in-At.start) (drop c.in-At.start a.f.now) in Stands (fields bar r) r a.k c.in-At-field_at.a c.in-At-field_at.e = c.in-At-field_at.ensures in
     let a = c.args in
     let l = layout_of a.t.now a.fixed.now in
     kind_value l a.f.now a.n a.k here inside c.if-k-eq1.true
 
 pub returns : goal.returns
 returns c =
-    let here : let a = c.args in     Stands (records a.f.now) a.f.now a.n c.in-At.start c.in-At.end = c.in-At.ensures in
-    let inside : let a = c.args in     let r = take (c.in-At.end - c.in-At.start) (drop c.in-At.start a.f.now) in     Stands (fields bar r) r a.k c.in-At-field_at.a c.in-At-field_at.e = c.in-At-field_at.ensures in
+    let here : let a = c.args in Stands (records a.f.now) a.f.now a.n c.in-At.start c.in-At.end = c.in-At.ensures in
+    let inside : let a = c.args in let r = take (c.in-At.end - c.in-At.start) (drop c.in-At.start a.f.now) in Stands (fields bar r) r a.k c.in-At-field_at.a c.in-At-field_at.e = c.in-At-field_at.ensures in
     let a = c.args in
     let f = a.f.now in
     let fixed = a.fixed.now in

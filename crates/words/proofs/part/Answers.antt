@@ -6,7 +6,7 @@ use Rattle.words.proofs.part.Goals as goal
 
 pub returns-in-At : goal.returns-in-At
 returns-in-At c =
-    let stands : let a = c.args in     IsPart a.s.now c.in-At.start c.in-At.end (field a.sep a.k a.s.now) = let a = c.args in
+    let stands : let a = c.args in IsPart a.s.now c.in-At.start c.in-At.end (field a.sep a.k a.s.now) = let a = c.args in
     field_stands a.sep a.k a.s.now (c.in-At.ensures) in
     stands.is
 

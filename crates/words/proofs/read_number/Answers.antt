@@ -20,13 +20,14 @@ returns-then-most-s c =
     too_many a.most a.limit a.s.now c.if-s-eq0.false c.if-most-s.true
 
 pub loop-i-init : goal.loop-i-init
-loop-i-init c = record {
-  long = record { some = c.if-s-eq0.false; few = c.if-most-s.false };
-  within = search rules;
-  low = search rules;
-  digits = refl;
-  spelt = refl;
-}
+loop-i-init c =
+    record {
+      long = record { some = c.if-s-eq0.false; few = c.if-most-s.false };
+      within = search rules;
+      low = search rules;
+      digits = refl;
+      spelt = refl;
+    }
 
 pub returns-then-not-is_digit : goal.returns-then-not-is_digit
 returns-then-not-is_digit c =
@@ -50,12 +51,18 @@ returns-then-not-in_limit c =
 
 pub overflow_mul-n : goal.overflow_mul-n
 overflow_mul-n c =
+    let low : let a = c.args in let l = c.loop-i in l.n * 10 + (get_or a.s.now l.i 0 - 48) ≤ a.limit = leb-true _ _ (sym c.in_limit.ensures ∙ c.if-not-in_limit.false) in
+    omega (arith, low)
 
 pub overflow_add-n : goal.overflow_add-n
 overflow_add-n c =
+    let low : let a = c.args in let l = c.loop-i in l.n * 10 + (get_or a.s.now l.i 0 - 48) ≤ a.limit = leb-true _ _ (sym c.in_limit.ensures ∙ c.if-not-in_limit.false) in
+    omega (arith, low)
 
 pub loop-i-preserved : goal.loop-i-preserved
 loop-i-preserved c =
+    let low : let a = c.args in let l = c.loop-i in l.n * 10 + (get_or a.s.now l.i 0 - 48) ≤ a.limit = leb-true _ _ (sym c.in_limit.ensures ∙ c.if-not-in_limit.false) in
+    let a = c.args in
     let l = c.loop-i in
     one_more_lem a.most a.limit a.s.now l.i l.n l.invariant c.loop-i-test.true
     (sym c.is_digit.ensures ∙ c.if-not-is_digit.false)
