@@ -1,6 +1,6 @@
 // The answer to a case: one line. Each function gives whether all of it was written.
+use crate::indexing;
 use crate::room::{fill, kept};
-use crate::{force, indexing};
 use field::{FieldAnswer, FieldType, Mark};
 use flow::StepAnswer;
 use headers::{Ask, Making};
@@ -101,23 +101,20 @@ fn making_line(
     }
 }
 
-// Answers a case: what is asked, the header, whose second word asks for a flow where there is one, what stands before the body, the
-// body, and room for a result.
+// Answers a case: what is asked, the words by which its header asks for a flow, the fixed value and the body behind it, and room for a result.
 pub fn answer(
     rt: &(impl Print + Eprint),
     ask: Ask,
-    header: &[u8],
-    first: &[u8],
+    flow: &[u8],
+    fixed: &[u8],
     body: &[u8],
     room: &mut [u8],
 ) -> bool {
-    let flow = headers::word(header, 2);
     match ask {
         Ask::Judge => printing::print_judged(rt, judge::judge(flow, body)),
         Ask::Value { record, field } => value_line(rt, flow, record, field, body),
         Ask::Period { period } => period_line(rt, flow, period, body),
-        Ask::Force { n } => force::force_line(rt, header, n, first, body),
-        Ask::Field { form, mark } => field_line(rt, form, mark, first, body),
+        Ask::Field { form, mark } => field_line(rt, form, mark, fixed, body),
         Ask::Sum => sum_line(rt, body),
         Ask::Step => step_line(rt, flow, body),
         Ask::Make { making, room: size } => {

@@ -3,7 +3,6 @@ ghost use Rattle.std.specs.Prelude.{◌≡◌, ◌+◌, ◌%◌, ◌^◌};
 
 use headers::Fault as HeaderFault;
 use stream::{tell, tell_number, tell_shown};
-use text::same_bytes;
 
 // Which case it is, counted from 1, and the byte of the stream where its header starts, counted from 0.
 #[derive(Clone, Copy)]
@@ -28,7 +27,7 @@ impl Place {
 #[derive(Clone, Copy)]
 pub enum Fault {
     HeaderCut,
-    FirstCut { stated: usize, came: usize },
+    FixedCut { stated: usize, came: usize },
     BodyCut { stated: usize, came: usize },
     HeaderLong,
     Header(HeaderFault),
@@ -42,15 +41,6 @@ fn tell_cut(rt: &impl Eprint, what: &[u8], stated: usize, came: usize) {
     tell(rt, b" bytes ");
     tell_number(rt, came as u64);
     tell(rt, b" came");
-}
-
-// Says so of what stands before a body: an original, or else a fixed value.
-fn tell_first_cut(rt: &impl Eprint, name: &[u8], stated: usize, came: usize) {
-    if same_bytes(name, b"force") {
-        tell_cut(rt, b"the original", stated, came);
-        return;
-    }
-    tell_cut(rt, b"the fixed value", stated, came);
 }
 
 // Says the name of a case, as much of it as a line can hold.
@@ -93,7 +83,6 @@ fn tell_header(rt: &impl Eprint, fault: HeaderFault, name: &[u8]) {
         HeaderFault::Record => tell_limit(rt, b"RECORD", b"1,000,000,000"),
         HeaderFault::Field => tell_limit(rt, b"FIELD", b"1,000,000,000"),
         HeaderFault::Period => tell_limit(rt, b"PERIOD", b"1,000,000,000"),
-        HeaderFault::Nth => tell_limit(rt, b"N", b"1,000,000,000"),
         HeaderFault::Type => tell(rt, b"TYPE is no type in document 01's spelling"),
         HeaderFault::Mark => tell(rt, b"MARK is none of -, opt and ="),
         HeaderFault::Fixed => tell_limit(rt, b"FIXED", b"1,114,112"),
@@ -107,7 +96,7 @@ fn tell_header(rt: &impl Eprint, fault: HeaderFault, name: &[u8]) {
 fn tell_fault(rt: &impl Eprint, fault: Fault, name: &[u8]) {
     match fault {
         Fault::HeaderCut => tell(rt, b"the stream ends before the line feed of the header"),
-        Fault::FirstCut { stated, came } => tell_first_cut(rt, name, stated, came),
+        Fault::FixedCut { stated, came } => tell_cut(rt, b"the fixed value", stated, came),
         Fault::BodyCut { stated, came } => tell_cut(rt, b"the body", stated, came),
         Fault::HeaderLong => tell(rt, b"the header is longer than 65,536 bytes"),
         Fault::Header(wrong) => tell_header(rt, wrong, name),

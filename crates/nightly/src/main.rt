@@ -3,7 +3,6 @@
 
 mod answer;
 mod broken;
-mod force;
 mod indexing;
 mod room;
 
@@ -59,13 +58,13 @@ fn answer_case(rt: &(impl Print + Eprint), case: Case, n: usize, s: &[u8], room:
     ensures { TakesOf s.now result }
 {
     let start = n + 1;
-    if s.len() - start < case.first {
-        return First::Short(Fault::FirstCut {
-            stated: case.first,
+    if s.len() - start < case.fixed {
+        return First::Short(Fault::FixedCut {
+            stated: case.fixed,
             came: s.len() - start,
         });
     }
-    let middle = start + case.first;
+    let middle = start + case.fixed;
     if s.len() - middle < case.length {
         return First::Short(Fault::BodyCut {
             stated: case.length,
@@ -74,7 +73,8 @@ fn answer_case(rt: &(impl Print + Eprint), case: Case, n: usize, s: &[u8], room:
     }
     let end = middle + case.length;
     let ask = case.ask;
-    if answer::answer(rt, ask, &s[0..n], &s[start..middle], &s[middle..end], room) {
+    let flow = headers::word(&s[0..n], 2);
+    if answer::answer(rt, ask, flow, &s[start..middle], &s[middle..end], room) {
         return First::Took(end);
     }
     First::Unwritten
@@ -187,8 +187,7 @@ fn go_through(rt: &(impl Input + Print + Eprint), window: &mut [u8], room: &mut 
     Ending::Hindered
 }
 
-// The window holds the most that a case has: a fixed value and a field, or an original and a resubmission, of 1,114,112 bytes each, behind
-// a header of 65,536 bytes.
+// The window holds the longest body, a fixed value and a field of 1,114,112 bytes each, behind a header of 65,536 bytes.
 fn main(rt: HostRuntime) {
     let mut window = [0u8; 2293760];
     let mut room = [0u8; 1114112];

@@ -7,9 +7,9 @@ use judge::Judged;
 use place::Refusal;
 use stream::{print, put, put_number};
 
-// Writes a line of a short word and at most six numbers.
+// Writes a line of a short word and at most five numbers.
 pub fn print_numbers(rt: &(impl Print + Eprint), word: &[u8], numbers: &[usize]) -> bool {
-    let mut line = [0u8; 160];
+    let mut line = [0u8; 128];
     let mut at = put(&mut line, 0, word);
     let mut i = 0;
     while i < numbers.len() {
@@ -20,7 +20,7 @@ pub fn print_numbers(rt: &(impl Print + Eprint), word: &[u8], numbers: &[usize])
     print(rt, &line[..end])
 }
 
-// Writes a line of numbers alone, at most seven.
+// Writes a line of numbers alone, at most six.
 pub fn print_row(rt: &(impl Print + Eprint), first: usize, others: &[usize]) -> bool {
     let mut digits = [0u8; 20];
     let k = io::decimal(first as u64, &mut digits);
@@ -35,15 +35,6 @@ pub fn print_accepted(rt: &(impl Print + Eprint), records: usize) -> bool {
 // Writes the line of a refusal.
 pub fn print_refusal(rt: &(impl Print + Eprint), r: Refusal) -> bool {
     print_numbers(rt, b"refused", &[r.number, r.record, r.field, r.place])
-}
-
-// Writes the line of a refusal about one of two files, 0 where it is about both, with the number of records in force.
-pub fn print_withheld(rt: &(impl Print + Eprint), r: Refusal, file: usize, number: usize) -> bool {
-    print_numbers(
-        rt,
-        b"refused",
-        &[r.number, r.record, r.field, r.place, file, number],
-    )
 }
 
 // Writes the line of what is said of a file.

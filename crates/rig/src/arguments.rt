@@ -6,7 +6,7 @@ use std::rt::{Env, Files};
 use stream::{Ending, Loaded};
 use words::Number;
 
-// The greatest RECORD, FIELD, PERIOD and N.
+// The greatest RECORD, FIELD and PERIOD.
 const ASKED_LIMIT: usize = 1000000000;
 
 // Says what hinders the call.

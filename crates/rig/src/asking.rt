@@ -238,7 +238,7 @@ pub fn step_words(rt: &(impl Env + Print + Eprint)) -> Ending {
 
 // Says which refusals there are.
 fn no_rule(rt: &impl Eprint) -> Ending {
-    hinder(rt, b"NUMBER is 1 to 23")
+    hinder(rt, b"NUMBER is 1 to 22")
 }
 
 // explain NUMBER

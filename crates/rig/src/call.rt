@@ -1,5 +1,5 @@
 // Which command a call is of. Counts of words have the program's own name among them.
-use crate::{arguments, asking, forcing, indexing, judging, making};
+use crate::{arguments, asking, indexing, judging, making};
 use std::rt::{Env, Files};
 use stream::Ending;
 use text::same_bytes;
@@ -8,7 +8,7 @@ use text::same_bytes;
 fn usage(rt: &impl Eprint) -> Ending {
     stream::tell(
         rt,
-        b"rig: no such command, or too few or too many words\nusage:\n  rig judge FLOW FILE..\n  rig write FLOW SHEET OUT [--over]\n  rig read FLOW FILE OUT [--over]\n  rig export FLOW FILE OUT [--over]\n  rig import TEXT OUT [--over]\n  rig value FLOW FILE RECORD FIELD\n  rig period FLOW FILE PERIOD\n  rig force ORIGINAL RESUBMISSION ID DATE GROUP N [EDITION]\n  rig index FLOW FILE\n  rig field TYPE [MARK] BYTES     as: rig field 'dec(4,1)' opt 5.0, rig field 'text(1)' =Z Z\n  rig sum FILE\n  rig step FLOW KINDS             as: rig step P0138001 ZHDSUB\n  rig explain NUMBER\nFLOW is a flow's name, or in one word its name, a space and an edition, 533 or 711 (none is 533), as: rig judge 'P0133001 711' FILE\n",
+        b"rig: no such command, or too few or too many words\nusage:\n  rig judge FLOW FILE..\n  rig write FLOW SHEET OUT [--over]\n  rig read FLOW FILE OUT [--over]\n  rig export FLOW FILE OUT [--over]\n  rig import TEXT OUT [--over]\n  rig value FLOW FILE RECORD FIELD\n  rig period FLOW FILE PERIOD\n  rig index FLOW FILE\n  rig field TYPE [MARK] BYTES     as: rig field 'dec(4,1)' opt 5.0, rig field 'text(1)' =Z Z\n  rig sum FILE\n  rig step FLOW KINDS             as: rig step P0138001 ZHDSUB\n  rig explain NUMBER\nFLOW is a flow's name, or in one word its name, a space and an edition, 533 or 711 (none is 533), as: rig judge 'P0133001 711' FILE\n",
     );
     Ending::Hindered
 }
@@ -36,22 +36,6 @@ fn word_command(rt: &(impl Env + Print + Eprint), name: &[u8], count: usize) -> 
         return asking::explain_word(rt);
     }
     usage(rt)
-}
-
-// The command that reads two files; the edition may lack.
-fn pair_command(
-    rt: &(impl Env + Files + Print + Eprint),
-    name: &[u8],
-    count: usize,
-    room: &mut [u8],
-) -> Ending {
-    if is_call(name, count, b"force", 8) {
-        return forcing::record_of(rt, room);
-    }
-    if is_call(name, count, b"force", 9) {
-        return forcing::record_of(rt, room);
-    }
-    word_command(rt, name, count)
 }
 
 // The commands that read one file.
@@ -85,7 +69,7 @@ fn file_command(
     if is_call(name, count, b"sum", 3) {
         return asking::sum_of(rt, room);
     }
-    pair_command(rt, name, count, room)
+    word_command(rt, name, count)
 }
 
 // Any command; the first reads any number of files.

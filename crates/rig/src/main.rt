@@ -5,7 +5,6 @@
 mod arguments;
 mod asking;
 mod call;
-mod forcing;
 mod indexing;
 mod judging;
 mod making;

@@ -4,7 +4,6 @@
 
 mod ask;
 mod calendar;
-mod force;
 mod form;
 mod found;
 mod heading;
@@ -16,7 +15,6 @@ mod say;
 mod step;
 
 pub use ask::about_field;
-pub use force::{about_no_record, about_one_of_two, about_record};
 pub use found::about_file;
 pub use period::about_period;
 pub use refusals::{explain, rule};

@@ -2,15 +2,10 @@
 use crate::{refusals, say};
 use stream::print;
 
-// The sentence on the part of a caller's words that is refused with a number.
-pub fn about_part(rt: &(impl Print + Eprint), part: &[u8], number: usize) -> bool {
-    print(rt, b"The rule: ")
-        && refusals::rule(rt, number)
-        && say::found(rt, part)
-        && print(rt, b".\n")
-}
-
 // The sentence on words that are refused with a number.
 pub fn about_words(rt: &(impl Print + Eprint), words: &[u8], number: usize) -> bool {
-    about_part(rt, findings::refused_part(words, number), number)
+    print(rt, b"The rule: ")
+        && refusals::rule(rt, number)
+        && say::found(rt, findings::refused_part(words, number))
+        && print(rt, b".\n")
 }

@@ -29,7 +29,7 @@ fn early_rule(rt: &(impl Print + Eprint), n: usize) -> bool {
     }
 }
 
-// The rule that refusal n holds up, 10 to 23.
+// The rule that refusal n holds up, 10 to 22.
 fn late_rule(rt: &(impl Print + Eprint), n: usize) -> bool {
     match n {
         10 => print(
@@ -68,13 +68,9 @@ fn late_rule(rt: &(impl Print + Eprint), n: usize) -> bool {
             rt,
             b"the edition behind a flow and a space is 533 or 711, and 533 where none is named; in 711 SB1 of P0133001 has no market sector, and all else is the same in both",
         ),
-        22 => print(
-            rt,
-            b"a period is asked for in P0012001 and in no other flow",
-        ),
         _ => print(
             rt,
-            b"a record in force is asked for by its number, 1 to how many there are: the CM1 records of a subject and a GSP Group in the resubmission if it has any of them, else those in the original",
+            b"a period is asked for in P0012001 and in no other flow",
         ),
     }
 }

@@ -5,7 +5,7 @@ use lib.ListN.{length}
 use Rattle.printing.proofs.print_numbers.Given as goal
 
 abbrev pub invariant-loop-i : goal.invariant-loop-i
-invariant-loop-i g l = (l.i ≤ length l.numbers) × (length l.line ≡ 160) × (l.at ≤ 160)
+invariant-loop-i g l = (l.i ≤ length l.numbers) × (length l.line ≡ 128) × (l.at ≤ 128)
 
 abbrev pub decreases-loop-i : goal.decreases-loop-i
 decreases-loop-i g l = length l.numbers - l.i
