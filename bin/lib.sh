@@ -12,9 +12,9 @@ find_kit() {
         rt=$(command -v rt) || die "no kit: put rt on PATH, or set RATTLE_HOME to the kit's folder"
     fi
     kit=${RATTLE_HOME:-$(dirname "$(dirname "$(readlink -f "$rt")")")}
-    tools=$kit/on/$(uname -m)/toolchain
+    tools=$kit/toolchain
     [ -x "$rt" ] || die "no kit at $kit: it has no bin/rt"
-    [ -d "$tools" ] || die "the kit at $kit has nothing for this machine, $(uname -m)"
+    [ -d "$tools" ] || die "the kit at $kit has no toolchain"
     system=$tools/lib emulator=$tools/bin/qemu-x86_64
     [ -x "$emulator" ] || emulator=''
 }
@@ -35,22 +35,35 @@ listed() { # NAME
         END { exit !found }' "$top/crates.txt"
 }
 
-# True where the file is there, and no file below the others is newer.
+# True where the file is there, and no file below the others is newer, but for what rt leaves in the folders out/.
 fresh() { # FILE SOURCE...
     built=$1
     shift
-    [ -f "$built" ] && [ -z "$(find "$@" -type f -newer "$built" | head -n 1)" ]
+    [ -f "$built" ] && [ -z "$(find "$@" -name out -prune -o -type f -newer "$built" -print | head -n 1)" ]
 }
 
-# Sets program, which is proved and built where target/ has none, or has one older than the sources. What rt says goes to
-# standard error: standard output is the program's. A program that rt left as it was is then as new as the sources.
+# Has rt prove a crate and build what it is, a program or a static library, into its folder out/, where none is there that is as
+# new as the sources: rt ci leaves one too, and each builds only what is proved. What rt says goes to standard error. A program
+# that rt run has built it runs once, with no words; how that ends says nothing of the build.
+build_out() { # NAME FILE
+    listed "$1" || die "$1 is not built yet: crates.txt has no such crate"
+    made=$top/crates/$1/out/$2
+    ! fresh "$made" "$top/crates" "$top/crates.txt" || return 0
+    (cd "$top/crates/$1" && "$rt" check >&2 </dev/null) || die "$1 was not built: it is not proved"
+    case $2 in
+    *.a) (cd "$top/crates/$1" && "$rt" lib >&2 </dev/null) || die "$1 was not built" ;;
+    *) (cd "$top/crates/$1" && "$rt" run >/dev/null 2>&1 </dev/null) ;;
+    esac
+    [ -f "$made" ] || die "rt left no crates/$1/out/$2: remove crates/$1/out and try again"
+    touch "$made"
+}
+
+# Sets program, which is proved and built where target/ has none, or has one older than the sources.
 build_program() { # NAME
     program=$top/target/bin/$1
-    listed "$1" || die "$1 is not built yet: crates.txt has no such crate"
     ! fresh "$program" "$top/crates" "$top/crates.txt" || return 0
-    (cd "$top" && "$rt" check "$1" >&2 </dev/null) || die "$1 was not run: it is not proved and built"
-    [ -x "$program" ] || die "rt left no target/bin/$1: remove target/ and try again"
-    touch "$program"
+    build_out "$1" "$1"
+    mkdir -p "$top/target/bin" && cp -f "$made" "$program.new" && mv -f "$program.new" "$program" || die "target/bin/$1 was not made"
 }
 
 # Builds the second program, where it is not built or older than its sources.

@@ -5,9 +5,9 @@ library=target/staticlib/libscreen.a
 
 # Proves and builds the static library where target/ has none, or has one older than the sources.
 build_library() {
-    listed screen || die "screen is not built yet: crates.txt has no such crate"
-    if [ -f "$library" ] && [ -z "$(find crates crates.txt -type f -newer "$library" | head -n 1)" ]; then return; fi
-    "$rt" staticlib screen >&2 </dev/null || die "the static library was not built: screen is not proved"
+    ! fresh "$library" crates crates.txt || return 0
+    build_out screen libscreen.a
+    mkdir -p target/staticlib && cp -f "$made" "$library" || die "$library was not made"
 }
 
 compile() { # SOURCE OBJECT [FLAG...]
@@ -19,6 +19,6 @@ compile() { # SOURCE OBJECT [FLAG...]
 link_c() { # PROGRAM FILE...
     program=$1
     shift
-    "$(dirname "$tools")/bin/rattle-link" --target x86_64-unknown-linux-gnu --toolchain "$tools" -o "$program" "$@" 2>"$program.said" \
+    "$kit/bin/rattle-link" --target x86_64-unknown-linux-gnu --toolchain "$tools" -o "$program" "$@" 2>"$program.said" \
         || { cat "$program.said" >&2; die "$program was not linked"; }
 }
