@@ -85,10 +85,38 @@ run_program() { # PATH [WORD...]
     env -i /bin/sh -c 'exec "$@"' sh ${emulator:+"$emulator"} "$system/ld-linux-x86-64.so.2" --library-path "$system" "$@"
 }
 
-# Runs a program and gives its status. A program has none of its own: it ends with a word on descriptor 3, which is 0, 1 or 2.
-# Where no word came the program was broken off, and that is 2. Its standard output is ours, untouched.
+# A name of printable ASCII alone.
+is_ascii() { # NAME
+    (LC_ALL=C; case $1 in *[!\ -~]*) exit 1 ;; esac)
+}
+
+# A program opens files by names that are text, and a name may have any bytes. So each word that is not ASCII gets a link to the file
+# that it may name, in a folder of links, which the program finds on descriptor 5. A link's name is the hex digits of the word's
+# bytes, a slash behind each 200 of them, and a hyphen at the end. A word that is text is opened as it stands.
+link_words() { # WORD...
+    links=''
+    for word; do
+        ! is_ascii "$word" || continue
+        if [ -z "$links" ]; then
+            links=$(mktemp -d) || return
+            trap 'rm -rf -- "$links"' EXIT
+            trap 'exit 2' HUP INT TERM
+        fi
+        link=$links/$(printf %s "$word" | od -An -v -tx1 | tr -d ' \n' | fold -w 200 | paste -s -d / -)-
+        case $word in
+        /*) leads=$word ;;
+        *) leads=/proc/self/cwd/$word ;;
+        esac
+        mkdir -p -- "${link%/*}" && ln -s -- "$leads" "$link"
+    done 2>/dev/null
+}
+
+# Runs a program and gives its status. A program ends with a word on descriptor 3, which is 0, 1 or 2: the status. Where no word came
+# the program was broken off, and that is 2. Its standard output is ours, untouched.
 start() { # PATH [WORD...]
-    { word=$(run_program "$@" 3>&1 >&4 4>&-); ended=$?; } 4>&1
+    link_words "$@"
+    { word=$(run_program "$@" 3>&1 >&4 4>&-); ended=$?; } 4>&1 5<"${links:-/dev/null}"
+    [ -z "$links" ] || rm -rf -- "$links"
     case $ended:$word in
     0:[012]) return "$word" ;;
     esac
