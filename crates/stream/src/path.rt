@@ -6,7 +6,8 @@ use crate::line::put;
 use std::fs::{File, OpenOptions, remove_file};
 use std::rt::Files;
 
-// Puts the name of the link: the hex digits of each byte, and a slash before each hundredth.
+// Puts the name of the link: the hex digits of each byte, a slash before each hundredth, and a hyphen at the end, so that no link has
+// the name of a folder of links.
 fn put_link(line: &mut [u8], name: &[u8]) -> usize
     ensures { IsPrefixLen result line.new }
 {
@@ -21,7 +22,7 @@ fn put_link(line: &mut [u8], name: &[u8]) -> usize
         at = put(line, at, &digits[..k]);
         i += 1;
     }
-    at
+    put(line, at, b"-")
 }
 
 // The name by which a file is opened. A link's name that is cut short is too long for the system too.
