@@ -1,5 +1,6 @@
 // The bench: judges one file on standard input, and prints the verdict on one line.
 #![tactic(auto)]
+
 ghost use Rattle.std.specs.Prelude.{◌≡◌};
 ghost use Rattle.judge.specs.File.{paper};
 ghost use Rattle.bench.specs.Bench.{benched};
@@ -33,8 +34,8 @@ fn answer(input: &[u8]) -> Judged
 }
 
 // Prints what is said of the file: the run ends well where it is accepted.
-fn give(j: Judged) -> Ending {
-    if !printing::print_judged(j) {
+fn give(rt: &(impl Print + Eprint), j: Judged) -> Ending {
+    if !printing::print_judged(rt, j) {
         return Ending::Hindered;
     }
     match j {
@@ -45,12 +46,12 @@ fn give(j: Judged) -> Ending {
 
 // Reads the longest first line that asks for a flow, 12 bytes and a line feed, and one byte of file more than is taken, so that a
 // file that is too long shows.
-fn main() {
+fn main(rt: HostRuntime) {
     let mut input = [0u8; 65550];
-    let loaded = stream::load_input(b"bench", &mut input);
+    let loaded = stream::load_input(&rt, b"bench", &mut input);
     if !loaded.read {
-        return stream::end(Ending::Hindered);
+        return stream::end(&rt, Ending::Hindered);
     }
     let n = loaded.size;
-    stream::end(give(answer(&input[..n])));
+    stream::end(&rt, give(&rt, answer(&input[..n])));
 }

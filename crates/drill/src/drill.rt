@@ -55,12 +55,12 @@ fn other(b: u8, d: usize) -> u8
 }
 
 // Says at which place and by which byte a spoiled file passed. Where one could not be printed, no other is tried.
-fn print_passed(t: Tally, at: usize, b: u8) -> bool {
-    t.written && printing::print_numbers(b"PASSED", &[at, b as usize, 0])
+fn print_passed(rt: &(impl Print + Eprint), t: Tally, at: usize, b: u8) -> bool {
+    t.written && printing::print_numbers(rt, b"PASSED", &[at, b as usize, 0])
 }
 
 // Counts a spoiled file, and says where it passed, if it did.
-fn count(t: Tally, passed: bool, at: usize, b: u8) -> Tally
+fn count(rt: &(impl Print + Eprint), t: Tally, passed: bool, at: usize, b: u8) -> Tally
     requires { t.refused + t.passed < 2 ^ 63 }
     ensures { Counted t.refused t.passed passed result.refused result.passed }
 {
@@ -68,7 +68,7 @@ fn count(t: Tally, passed: bool, at: usize, b: u8) -> Tally
         return Tally {
             refused: t.refused,
             passed: t.passed + 1,
-            written: print_passed(t, at, b),
+            written: print_passed(rt, t, at, b),
         };
     }
     Tally {
@@ -79,7 +79,14 @@ fn count(t: Tally, passed: bool, at: usize, b: u8) -> Tally
 }
 
 // Spoils one place by one other byte, has the file judged, and puts the byte back.
-fn spoil(flow: &[u8], file: &mut [u8], at: usize, d: usize, t: Tally) -> Tally
+fn spoil(
+    rt: &(impl Print + Eprint),
+    flow: &[u8],
+    file: &mut [u8],
+    at: usize,
+    d: usize,
+    t: Tally,
+) -> Tally
     requires at_in_bounds { at < length file.old }
     requires passed_bound { t.refused + t.passed < 2 ^ 63 }
     ensures file_unchanged { file.new ≡ file.old }
@@ -90,11 +97,18 @@ fn spoil(flow: &[u8], file: &mut [u8], at: usize, d: usize, t: Tally) -> Tally
     file[at] = b;
     let passed = accepts(flow, file);
     file[at] = kept;
-    count(t, passed, at, b)
+    count(rt, t, passed, at, b)
 }
 
 // Spoils one place by the other bytes that the plan names.
-fn spoil_place(flow: &[u8], file: &mut [u8], at: usize, p: Plan, so_far: Tally) -> Tally
+fn spoil_place(
+    rt: &(impl Print + Eprint),
+    flow: &[u8],
+    file: &mut [u8],
+    at: usize,
+    p: Plan,
+    so_far: Tally,
+) -> Tally
     requires at_in_bounds { at < length file.old }
     requires bytes_nonzero { 0 < p.bytes }
     requires so_far_bound { so_far.refused + so_far.passed < 2 ^ 62 }
@@ -104,7 +118,7 @@ fn spoil_place(flow: &[u8], file: &mut [u8], at: usize, p: Plan, so_far: Tally) 
     let mut t = so_far;
     let mut d = 1;
     while d < 256 {
-        t = spoil(flow, file, at, d, t);
+        t = spoil(rt, flow, file, at, d, t);
         if 256 - d < p.bytes {
             return t;
         }
@@ -114,18 +128,18 @@ fn spoil_place(flow: &[u8], file: &mut [u8], at: usize, p: Plan, so_far: Tally) 
 }
 
 // Says on standard error how far the drill is, at every 64th place.
-fn progress(turn: usize, at: usize, size: usize) {
+fn progress(rt: &impl Eprint, turn: usize, at: usize, size: usize) {
     if turn % 64 == 0 {
-        tell(b"drill: place ");
-        tell_number(at as u64);
-        tell(b" of ");
-        tell_number(size as u64);
-        tell(b"\n");
+        tell(rt, b"drill: place ");
+        tell_number(rt, at as u64);
+        tell(rt, b" of ");
+        tell_number(rt, size as u64);
+        tell(rt, b"\n");
     }
 }
 
 // Spoils a good file at the places that the plan names; it stops where a file that passed can't be printed.
-pub fn spoil_all(flow: &[u8], file: &mut [u8], p: Plan) -> Tally
+pub fn spoil_all(rt: &(impl Print + Eprint), flow: &[u8], file: &mut [u8], p: Plan) -> Tally
     requires places_nonzero { (0 < p.places) × (0 < p.bytes) }
     requires file_len_bound { length file.old ≤ 1048576 }
     ensures file_unchanged { file.new ≡ file.old }
@@ -138,8 +152,8 @@ pub fn spoil_all(flow: &[u8], file: &mut [u8], p: Plan) -> Tally
     };
     let mut at = 0;
     while at < file.len() {
-        progress(at / p.places, at, file.len());
-        t = spoil_place(flow, file, at, p, t);
+        progress(rt, at / p.places, at, file.len());
+        t = spoil_place(rt, flow, file, at, p, t);
         if !t.written {
             return t;
         }

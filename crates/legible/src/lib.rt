@@ -1,5 +1,6 @@
 // Bytes as people can read them.
 #![tactic(auto)]
+
 ghost use Rattle.std.specs.Prelude.{◌≡◌, ◌+◌, ◌≤◌, ◌<◌, length};
 ghost use Rattle.std.proofs.lemmas.List.Edits.{sets};
 ghost use Rattle.legible.specs.Shown.{is_plain, hex_digit, escaped, shown_byte, Shows};

@@ -8,10 +8,11 @@ use printing::{print_numbers, print_row};
 use stream::least;
 
 // Prints the entry whose four numbers stand from a place on.
-fn print_entry(cells: &[u64], at: usize) -> bool
+fn print_entry(rt: &(impl Print + Eprint), cells: &[u64], at: usize) -> bool
     requires { at + 4 ≤ length cells.now }
 {
     print_row(
+        rt,
         cells[at] as usize,
         &[
             cells[at + 1] as usize,
@@ -22,12 +23,12 @@ fn print_entry(cells: &[u64], at: usize) -> bool
 }
 
 // Prints so many entries, a line each.
-fn print_entries(cells: &[u64], entries: usize) -> bool
+fn print_entries(rt: &(impl Print + Eprint), cells: &[u64], entries: usize) -> bool
     requires { 4 * entries ≤ length cells.now }
 {
     let mut i = 0;
     while i < entries {
-        if !print_entry(cells, 4 * i) {
+        if !print_entry(rt, cells, 4 * i) {
             return false;
         }
         i += 1;
@@ -36,35 +37,43 @@ fn print_entries(cells: &[u64], entries: usize) -> bool
 }
 
 // Prints what is said of an index in some cells, and its entries. All cells past them must keep their pattern.
-fn print_index(said: Indexed, cells: &[u64]) -> bool
+fn print_index(rt: &(impl Print + Eprint), said: Indexed, cells: &[u64]) -> bool
     requires { StandIn cells.now said }
 {
     match said {
         Indexed::Refused(r) => print_numbers(
+            rt,
             b"refused",
             &[r.number, r.record, r.field, r.place, kept_cells(cells, 0)],
         ),
         Indexed::Filled { records, entries } => {
             print_numbers(
+                rt,
                 b"ok",
                 &[0, records, entries, 0, kept_cells(cells, 4 * entries)],
-            ) && print_entries(cells, entries)
+            ) && print_entries(rt, cells, entries)
         }
     }
 }
 
 // Lends the first of some cells, room for so many entries, and prints what came of it. The cells behind them were not lent.
-fn index_in(flow: &[u8], file: &[u8], room: usize, cells: &mut [u64]) -> bool
+fn index_in(
+    rt: &(impl Print + Eprint),
+    flow: &[u8],
+    file: &[u8],
+    room: usize,
+    cells: &mut [u64],
+) -> bool
     requires { 4 * room ≤ length cells.old }
 {
     fill_cells(cells);
     let end = 4 * room;
     let said = index::fill_cells(flow, file, &mut cells[0..end]);
-    print_index(said, cells)
+    print_index(rt, said, cells)
 }
 
 // An index of a file, with room for so many entries, at most 8,192.
-pub fn index_line(flow: &[u8], file: &[u8], room: usize) -> bool {
+pub fn index_line(rt: &(impl Print + Eprint), flow: &[u8], file: &[u8], room: usize) -> bool {
     let mut cells = [0u64; 32768];
-    index_in(flow, file, least(room, 8192), &mut cells)
+    index_in(rt, flow, file, least(room, 8192), &mut cells)
 }

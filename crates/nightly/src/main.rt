@@ -1,8 +1,8 @@
 // Many cases in one stream. A case is a header line and a body; each is answered by one line.
 #![tactic(auto)]
+
 mod answer;
 mod broken;
-mod force;
 mod indexing;
 mod room;
 
@@ -53,18 +53,18 @@ fn line_length(s: &[u8]) -> usize
 }
 
 // Answers the first case of some bytes, whose header has n bytes, if it is all there.
-fn answer_case(case: Case, n: usize, s: &[u8], room: &mut [u8]) -> First
+fn answer_case(rt: &(impl Print + Eprint), case: Case, n: usize, s: &[u8], room: &mut [u8]) -> First
     requires { n < length s.now }
     ensures { TakesOf s.now result }
 {
     let start = n + 1;
-    if s.len() - start < case.first {
-        return First::Short(Fault::FirstCut {
-            stated: case.first,
+    if s.len() - start < case.fixed {
+        return First::Short(Fault::FixedCut {
+            stated: case.fixed,
             came: s.len() - start,
         });
     }
-    let middle = start + case.first;
+    let middle = start + case.fixed;
     if s.len() - middle < case.length {
         return First::Short(Fault::BodyCut {
             stated: case.length,
@@ -73,14 +73,15 @@ fn answer_case(case: Case, n: usize, s: &[u8], room: &mut [u8]) -> First
     }
     let end = middle + case.length;
     let ask = case.ask;
-    if answer::answer(ask, &s[0..n], &s[start..middle], &s[middle..end], room) {
+    let flow = headers::word(&s[0..n], 2);
+    if answer::answer(rt, ask, flow, &s[start..middle], &s[middle..end], room) {
         return First::Took(end);
     }
     First::Unwritten
 }
 
 // Answers the first case of some bytes, if it is all there.
-fn answer_first(s: &[u8], room: &mut [u8]) -> First
+fn answer_first(rt: &(impl Print + Eprint), s: &[u8], room: &mut [u8]) -> First
     ensures { TakesOf s.now result }
 {
     let n = line_length(s);
@@ -88,26 +89,26 @@ fn answer_first(s: &[u8], room: &mut [u8]) -> First
         return First::Short(Fault::HeaderCut);
     }
     match headers::read(&s[0..n]) {
-        Header::Of(case) => answer_case(case, n, s, room),
+        Header::Of(case) => answer_case(rt, case, n, s, room),
         Header::Bad(fault) => First::Bad(Fault::Header(fault)),
     }
 }
 
 // Ends a run whose stream is broken: says what is wrong with the case that some bytes begin with. The
 // run is hindered whether or not its last line is written.
-fn end_broken(place: Place, fault: Fault, s: &[u8]) -> Ending {
-    stream::print(b"bad header\n");
+fn end_broken(rt: &(impl Print + Eprint), place: Place, fault: Fault, s: &[u8]) -> Ending {
+    stream::print(rt, b"bad header\n");
     let n = line_length(s);
-    broken::tell_broken(place, fault, headers::word(&s[0..n], 1));
+    broken::tell_broken(rt, place, fault, headers::word(&s[0..n], 1));
     Ending::Hindered
 }
 
 // Ends a run at the end of its input, where no byte of a case may be left.
-fn end_input(place: Place, lack: Fault, left: &[u8]) -> Ending {
+fn end_input(rt: &(impl Print + Eprint), place: Place, lack: Fault, left: &[u8]) -> Ending {
     if left.len() == 0 {
         return Ending::Well;
     }
-    end_broken(place, lack, left)
+    end_broken(rt, place, lack, left)
 }
 
 // The unread bytes of a window.
@@ -120,33 +121,38 @@ fn unread_of<'a>(window: &'a [u8], u: Unread) -> &'a [u8]
 }
 
 // Reads on, where a case is not all there.
-fn read_more(window: &mut [u8], run: Run, lack: Fault) -> Turn
+fn read_more(rt: &(impl Input + Print + Eprint), window: &mut [u8], run: Run, lack: Fault) -> Turn
     requires { Within window.old run.unread.from run.unread.to }
     ensures { StaysIn window.new result }
 {
     let place = run.place;
-    match stream::more(b"nightly", window, run.unread) {
+    match stream::more(rt, b"nightly", window, run.unread) {
         Reading::Came(u) => Turn::On(Run {
             unread: u,
             place: place,
         }),
-        Reading::Ended(u) => Turn::Over(end_input(place, lack, unread_of(window, u))),
+        Reading::Ended(u) => Turn::Over(end_input(rt, place, lack, unread_of(window, u))),
         Reading::Full(u) => {
-            Turn::Over(end_broken(place, Fault::HeaderLong, unread_of(window, u)))
+            Turn::Over(end_broken(rt, place, Fault::HeaderLong, unread_of(window, u)))
         }
         Reading::Failed => Turn::Over(Ending::Hindered),
     }
 }
 
 // Answers a case, or reads on.
-fn one_turn(window: &mut [u8], room: &mut [u8], run: Run) -> Turn
+fn one_turn(
+    rt: &(impl Input + Print + Eprint),
+    window: &mut [u8],
+    room: &mut [u8],
+    run: Run,
+) -> Turn
     requires { Within window.old run.unread.from run.unread.to }
     ensures { StaysIn window.new result }
 {
     let place = run.place;
     let from = run.unread.from;
     let to = run.unread.to;
-    match answer_first(&window[from..to], room) {
+    match answer_first(rt, &window[from..to], room) {
         First::Took(n) => Turn::On(Run {
             unread: Unread {
                 from: from + n,
@@ -154,21 +160,21 @@ fn one_turn(window: &mut [u8], room: &mut [u8], run: Run) -> Turn
             },
             place: place.past(n),
         }),
-        First::Short(lack) => read_more(window, run, lack),
-        First::Bad(fault) => Turn::Over(end_broken(place, fault, &window[from..to])),
+        First::Short(lack) => read_more(rt, window, run, lack),
+        First::Bad(fault) => Turn::Over(end_broken(rt, place, fault, &window[from..to])),
         First::Unwritten => Turn::Over(Ending::Hindered),
     }
 }
 
 // A proved loop has to end, and nothing says that the input does. So the loop counts its turns down, from a number that no run uses up.
-fn go_through(window: &mut [u8], room: &mut [u8]) -> Ending {
+fn go_through(rt: &(impl Input + Print + Eprint), window: &mut [u8], room: &mut [u8]) -> Ending {
     let mut turns = u64::MAX;
     let mut run = Run {
         unread: Unread { from: 0, to: 0 },
         place: Place { case: 1, at: 0 },
     };
     while 0 < turns {
-        match one_turn(window, room, run) {
+        match one_turn(rt, window, room, run) {
             Turn::On(next) => {
                 run = next;
                 turns -= 1;
@@ -181,10 +187,9 @@ fn go_through(window: &mut [u8], room: &mut [u8]) -> Ending {
     Ending::Hindered
 }
 
-// The window holds the most that a case has: a fixed value and a field, or an original and a resubmission, of 1,114,112 bytes each, behind
-// a header of 65,536 bytes.
-fn main() {
+// The window holds the longest body, a fixed value and a field of 1,114,112 bytes each, behind a header of 65,536 bytes.
+fn main(rt: HostRuntime) {
     let mut window = [0u8; 2293760];
     let mut room = [0u8; 1114112];
-    stream::end(go_through(&mut window, &mut room));
+    stream::end(&rt, go_through(&rt, &mut window, &mut room));
 }

@@ -1,5 +1,6 @@
 // The byte that a refusal points at, shown to people: its place in decimal and hex, its record, and a mark under it.
 #![tactic(auto)]
+
 ghost use Rattle.std.specs.Prelude.{◌≡◌, map, ◌+◌, ◌≤◌, min, length, take};
 ghost use Rattle.io.specs.Counts.{IsPrefixLen};
 ghost use Rattle.pointing.specs.Hex.{capital_of, IsHex};
@@ -118,75 +119,83 @@ fn hex(n: usize, out: &mut [u8; 16]) -> usize
 }
 
 // `Byte 78 (hex 4E)`.
-fn print_place(place: usize) -> bool {
+fn print_place(rt: &(impl Print + Eprint), place: usize) -> bool {
     let mut digits = [0u8; 16];
     let k = hex(place, &mut digits);
-    print(b"Byte ")
-        && print_number(place as u64)
-        && print(b" (hex ")
-        && print(&digits[..k])
-        && print(b")")
+    print(rt, b"Byte ")
+        && print_number(rt, place as u64)
+        && print(rt, b" (hex ")
+        && print(rt, &digits[..k])
+        && print(rt, b")")
 }
 
 // That the place is the end of a file, or of a sheet, whose fields are parted by tabs.
-fn print_end(sep: u8) -> bool {
+fn print_end(rt: &(impl Print + Eprint), sep: u8) -> bool {
     if sep == TAB {
-        return print(b", the end of the sheet.\n");
+        return print(rt, b", the end of the sheet.\n");
     }
-    print(b", the end of the file.\n")
+    print(rt, b", the end of the file.\n")
 }
 
 // Which bytes are shown, where they are not the whole of a record of so many.
-fn print_part(part: Part, size: usize) -> bool
+fn print_part(rt: &(impl Print + Eprint), part: Part, size: usize) -> bool
     requires { part.to ≡ part.from + min 64 size }
 {
     if size <= 64 {
-        return print(b":\n");
+        return print(rt, b":\n");
     }
-    print(b"; only bytes ")
-        && print_number(part.from as u64)
-        && print(b" to ")
-        && print_number((part.to - 1) as u64)
-        && print(b" are shown:\n")
+    print(rt, b"; only bytes ")
+        && print_number(rt, part.from as u64)
+        && print(rt, b" to ")
+        && print_number(rt, (part.to - 1) as u64)
+        && print(rt, b" are shown:\n")
 }
 
 // Bytes on a line of their own, a column each.
-fn print_columns(part: &[u8]) -> bool
+fn print_columns(rt: &(impl Print + Eprint), part: &[u8]) -> bool
     requires { length part.now ≤ 64 }
 {
     let line = columns(part);
     let n = part.len();
-    print(&line[..n]) && print(b"\n")
+    print(rt, &line[..n]) && print(rt, b"\n")
 }
 
 // The mark on a line of its own, with n blanks before it.
-fn print_mark(n: usize) -> bool
+fn print_mark(rt: &(impl Print + Eprint), n: usize) -> bool
     requires { n ≤ 64 }
 {
     let line = mark(n);
     let width = n + 1;
-    print(&line[..width]) && print(b"\n")
+    print(rt, &line[..width]) && print(rt, b"\n")
 }
 
 // The record from `start` up to `end`, and a mark under the byte at the place.
-fn print_record(s: &[u8], start: usize, end: usize, place: usize) -> bool
+fn print_record(
+    rt: &(impl Print + Eprint),
+    s: &[u8],
+    start: usize,
+    end: usize,
+    place: usize,
+) -> bool
     requires { (start ≤ place) × (place ≤ end) × (end ≤ length s.now) }
 {
     let part = window(start, end, place);
     let from = part.from;
     let to = part.to;
-    print_part(part, end - start) && print_columns(&s[from..to]) && print_mark(part.mark)
+    print_part(rt, part, end - start)
+        && print_columns(rt, &s[from..to])
+        && print_mark(rt, part.mark)
 }
 
 // The byte that a refusal points at, in its record; or that it is the end. Of a refusal of the whole there is nothing to show.
-pub fn point(sep: u8, s: &[u8], r: Refusal) -> bool
+pub fn point(rt: &(impl Print + Eprint), sep: u8, s: &[u8], r: Refusal) -> bool
     requires { Placed sep s.now r }
 {
     if r.record == 0 {
         return true;
     }
     let Found::At { start, end } = record::record_at(s, r.record) else {
-        return print_place(r.place) && print_end(sep);
+        return print_place(rt, r.place) && print_end(rt, sep);
     };
-    print_place(r.place) && print_record(s, start, end, r.place)
+    print_place(rt, r.place) && print_record(rt, s, start, end, r.place)
 }

@@ -1,14 +1,15 @@
 // Lines of words parted by tabs on standard output, each made in a local array and written by one call.
 #![tactic(auto)]
+
 ghost use Rattle.std.specs.Prelude.{◌≡◌, ◌≤◌, nat_abs};
 
 use judge::Judged;
 use place::Refusal;
 use stream::{print, put, put_number};
 
-// Writes a line of a short word and at most six numbers.
-pub fn print_numbers(word: &[u8], numbers: &[usize]) -> bool {
-    let mut line = [0u8; 160];
+// Writes a line of a short word and at most five numbers.
+pub fn print_numbers(rt: &(impl Print + Eprint), word: &[u8], numbers: &[usize]) -> bool {
+    let mut line = [0u8; 128];
     let mut at = put(&mut line, 0, word);
     let mut i = 0;
     while i < numbers.len() {
@@ -16,71 +17,68 @@ pub fn print_numbers(word: &[u8], numbers: &[usize]) -> bool {
         i += 1;
     }
     let end = put(&mut line, at, b"\n");
-    print(&line[..end])
+    print(rt, &line[..end])
 }
 
-// Writes a line of numbers alone, at most seven.
-pub fn print_row(first: usize, others: &[usize]) -> bool {
+// Writes a line of numbers alone, at most six.
+pub fn print_row(rt: &(impl Print + Eprint), first: usize, others: &[usize]) -> bool {
     let mut digits = [0u8; 20];
     let k = io::decimal(first as u64, &mut digits);
-    print_numbers(&digits[..k], others)
+    print_numbers(rt, &digits[..k], others)
 }
 
 // Writes the line of a file that is accepted.
-pub fn print_accepted(records: usize) -> bool {
-    print_numbers(b"ok", &[0, records, 0, 0])
+pub fn print_accepted(rt: &(impl Print + Eprint), records: usize) -> bool {
+    print_numbers(rt, b"ok", &[0, records, 0, 0])
 }
 
 // Writes the line of a refusal.
-pub fn print_refusal(r: Refusal) -> bool {
-    print_numbers(b"refused", &[r.number, r.record, r.field, r.place])
-}
-
-// Writes the line of a refusal about one of two files, 0 where it is about both, with the number of records in force.
-pub fn print_withheld(r: Refusal, file: usize, number: usize) -> bool {
-    print_numbers(
-        b"refused",
-        &[r.number, r.record, r.field, r.place, file, number],
-    )
+pub fn print_refusal(rt: &(impl Print + Eprint), r: Refusal) -> bool {
+    print_numbers(rt, b"refused", &[r.number, r.record, r.field, r.place])
 }
 
 // Writes the line of what is said of a file.
-pub fn print_judged(j: Judged) -> bool {
+pub fn print_judged(rt: &(impl Print + Eprint), j: Judged) -> bool {
     match j {
-        Judged::Accepted(records) => print_accepted(records),
-        Judged::Refused(r) => print_refusal(r),
+        Judged::Accepted(records) => print_accepted(rt, records),
+        Judged::Refused(r) => print_refusal(rt, r),
     }
 }
 
 // Writes a line of `ok`, 0, the kind of a value and the value, which has at most 512 bytes.
-pub fn print_value(kind: &[u8], value: &[u8]) -> bool {
+pub fn print_value(rt: &(impl Print + Eprint), kind: &[u8], value: &[u8]) -> bool {
     let mut line = [0u8; 640];
     let at = put(&mut line, 0, b"ok\t0\t");
     let at = put(&mut line, at, kind);
     let at = put(&mut line, at, b"\t");
     let at = put(&mut line, at, value);
     let at = put(&mut line, at, b"\n");
-    print(&line[..at])
+    print(rt, &line[..at])
 }
 
 // Writes the line of a value that is a truth, as T or F.
-pub fn print_truth(truth: bool) -> bool {
+pub fn print_truth(rt: &(impl Print + Eprint), truth: bool) -> bool {
     if truth {
-        print_value(b"truth", b"T")
+        print_value(rt, b"truth", b"T")
     } else {
-        print_value(b"truth", b"F")
+        print_value(rt, b"truth", b"F")
     }
 }
 
 // Writes the line of the kinds that may follow, whose names stand at the front of the bytes, three bytes each.
-pub fn print_follow(count: usize, complete: bool, follow: &[u8; 96]) -> bool
+pub fn print_follow(
+    rt: &(impl Print + Eprint),
+    count: usize,
+    complete: bool,
+    follow: &[u8; 96],
+) -> bool
     requires { count ≤ 32 }
 {
     let names = text::part(follow, 0, 3 * count);
     if complete {
-        print_value(b"complete", names)
+        print_value(rt, b"complete", names)
     } else {
-        print_value(b"open", names)
+        print_value(rt, b"open", names)
     }
 }
 
@@ -95,15 +93,15 @@ fn size(n: i64) -> u64
 }
 
 // Writes the line of a value that is a whole number.
-pub fn print_whole(n: i64) -> bool {
+pub fn print_whole(rt: &(impl Print + Eprint), n: i64) -> bool {
     let mut digits = [0u8; 20];
     let k = io::decimal(size(n), &mut digits);
     let mut value = [0u8; 21];
     if n < 0 {
         let sign = put(&mut value, 0, b"-");
         let at = put(&mut value, sign, &digits[..k]);
-        print_value(b"number", &value[..at])
+        print_value(rt, b"number", &value[..at])
     } else {
-        print_value(b"number", &digits[..k])
+        print_value(rt, b"number", &digits[..k])
     }
 }

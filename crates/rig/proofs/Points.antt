@@ -22,7 +22,7 @@ use Rattle.flow.specs.declared.StepAnswer.TheVariants as steps
 use Rattle.flow.proofs.Asking.{asked_whole}
 use Rattle.field.specs.declared.FieldAnswer.{FieldAnswer}
 use Rattle.field.specs.declared.FieldAnswer.TheVariants as fields
-use Rattle.judge.specs.File.{judged_by, with_place, placed_by, judged_for, judged}
+use Rattle.judge.specs.File.{judged_by, with_place, judged_for, judged}
 use Rattle.judge.specs.File.{paper as judged_paper}
 use Rattle.judge.specs.declared.Verdict.{Verdict}
 use Rattle.judge.specs.declared.Verdict.TheVariants as verdicts
@@ -36,14 +36,6 @@ use Rattle.period.specs.Answer.{yes_or_no, answered, read_up_to, some_has, up_to
 use Rattle.period.specs.Answer.{paper as period_paper}
 use Rattle.period.specs.declared.Answer.{Answer}
 use Rattle.period.specs.declared.Answer.TheVariants as answers
-use Rattle.resubmission.specs.Rows.{Pair, Row, rows_in}
-use Rattle.resubmission.specs.InForce.{of, holder, handed, in_force_by, in_force_for, in_force}
-use Rattle.resubmission.specs.InForce.{read as reads, paper as force_paper}
-use Rattle.resubmission.proofs.Answers.{one_answer}
-use Rattle.resubmission.specs.declared.Which.{Which}
-use Rattle.resubmission.specs.declared.Which.TheVariants.{Original, Resubmission}
-use Rattle.resubmission.specs.declared.InForce.{InForce}
-use Rattle.resubmission.specs.declared.InForce.TheVariants as forces
 use Rattle.sheet.specs.Sheets.{tab, made, sheet_of, bar_line}
 use Rattle.sheet.specs.Write.{lines_ended, as_judged, fitted, written_by, written, Wrote, Reply, done, refused}
 use Rattle.sheet.specs.Write.{paper as transfer_paper}
@@ -197,43 +189,6 @@ module _ (f : List ℕ) where
 pub has_placed : (words f : List ℕ) (p : ℕ) (r : Refusal) → period_paper (answers.Refused r) ≡ has_period (asked words) f p → Placed bar f r
 unfolding has_period
 has_placed words f p r e = same_period f r (has_for (asked words) f p) e (period_placed f (asked words) p (asked_placed bar f words))
-
--- of one of two files whose records in force are asked for
-abbrev PlacedForce : List ℕ → List ℕ → InForce → Type 0
-PlacedForce a b (forces.Refused r file) = Placed bar (of file a b) r
-PlacedForce a b (forces.NoSuch r number) = Unit
-PlacedForce a b (forces.Found file number start end) = Unit
-
-module _ (a b : List ℕ) where
-  there_or_23 : (t : Bool) (file : Which) (number start end : ℕ) →
-      PlacedForce a b (must t (forces.NoSuch (whole 23) number) (forces.Found file number start end))
-  there_or_23 true file number start end = tt
-  there_or_23 false file number start end = tt
-
-  handed_placed : (file : Which) (rows : List Row) (n : ℕ) → PlacedForce a b (handed file rows n)
-  unfolding handed
-  handed_placed file rows n = there_or_23 (from_to 1 (length rows) n) file _ _ _
-
-  judged_first : (file : Which) (j : Judged) (after : InForce) → PlacedJudged bar (of file a b) j → PlacedForce a b after →
-      PlacedForce a b (reads file j after)
-  judged_first file (files.Accepted n) after g h = h
-  judged_first file (files.Refused r) after g h = g
-
-  force_placed : (x : Asked) (p : Pair) (n : ℕ) → PlacedAsked bar a x → PlacedForce a b (in_force_for x a b p n)
-  unfolding in_force_for in_force_by
-  force_placed (a_flow fl) p n h =
-      let l = layout_for fl in
-      judged_first Original (placed_by l a) _ (verdict_placed bar a (judged_by l a))
-      (judged_first Resubmission (placed_by l b) _ (verdict_placed bar b (judged_by l b))
-      (handed_placed (holder (rows_in fl p b)) (of (holder (rows_in fl p b)) (rows_in fl p a) (rows_in fl p b)) n))
-  force_placed (no_flow r) p n h = h
-
-pub in_force_placed : (words a b : List ℕ) (p : Pair) (n : ℕ) (r : Refusal) (file : Which) →
-    force_paper (forces.Refused r file) ≡ in_force (asked words) a b p n → Placed bar (of file a b) r
-unfolding in_force
-in_force_placed words a b p n r file e =
-    subst (PlacedForce a b) (sym (one_answer (forces.Refused r file) (in_force_for (asked words) a b p n) e))
-    (force_placed a b (asked words) p n (asked_placed bar a words))
 
 -- of an index
 abbrev PlacedIndex : List ℕ → Indexed → Type 0

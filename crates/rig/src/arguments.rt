@@ -1,15 +1,17 @@
 // The words that the program was called with, and how a command ends.
 ghost use Rattle.stream.specs.File.{Loads};
 
+use std::env::FillError;
+use std::rt::{Env, Files};
 use stream::{Ending, Loaded};
 use words::Number;
 
-// The greatest RECORD, FIELD, PERIOD and N.
+// The greatest RECORD, FIELD and PERIOD.
 const ASKED_LIMIT: usize = 1000000000;
 
 // Says what hinders the call.
-pub fn hinder(why: &[u8]) -> Ending {
-    stream::complain(b"rig", why);
+pub fn hinder(rt: &impl Eprint, why: &[u8]) -> Ending {
+    stream::complain(rt, b"rig", why);
     Ending::Hindered
 }
 
@@ -32,33 +34,35 @@ pub fn refused(written: bool) -> Ending {
 }
 
 // The number that word i spells.
-pub fn number_word(i: usize) -> Number {
+pub fn number_word(rt: &impl Env, i: usize) -> Number {
     let mut digits = io::large_buffer();
-    let n = os::arg(i, &mut digits);
+    let n = stream::arg(rt, i, &mut digits);
     words::read_number(&digits[..n], 10, ASKED_LIMIT)
 }
 
 // Reads the file that word i names.
-pub fn load_word(i: usize, room: &mut [u8]) -> Loaded
+pub fn load_word(rt: &(impl Env + Files + Eprint), i: usize, room: &mut [u8]) -> Loaded
     ensures { Loads room.new result.read result.size }
 {
     let mut path = io::large_buffer();
-    let n = os::arg(i, &mut path);
-    stream::load(b"rig", &path[..n], room)
+    let n = stream::arg(rt, i, &mut path);
+    stream::load(rt, b"rig", &path[..n], room)
 }
 
 // Whether word i is all there in the lent bytes.
-fn fits(i: usize, word: &mut [u8]) -> bool {
-    os::arg(i, word);
-    os::errno() != libc::ENAMETOOLONG
+fn fits(rt: &impl Env, i: usize, word: &mut [u8]) -> bool {
+    match rt.arg(i, word) {
+        Err(FillError::TooLong) => false,
+        _ => true,
+    }
 }
 
 // Whether each of the words is all there in 65,536 bytes.
-pub fn all_fit(count: usize) -> bool {
+pub fn all_fit(rt: &impl Env, count: usize) -> bool {
     let mut word = io::large_buffer();
     let mut i = 0;
     while i < count {
-        if !fits(i, &mut word) {
+        if !fits(rt, i, &mut word) {
             return false;
         }
         i += 1;

@@ -4,16 +4,17 @@ use crate::judging::refuse;
 use index::Indexed;
 use printing::{print_numbers, print_row};
 use record::BAR;
+use std::rt::{Env, Files};
 use stream::Ending;
 
 // Prints the first n entries of a file's index.
-fn print_entries(t: &[u32], file: &[u8], n: usize) -> bool {
+fn print_entries(rt: &(impl Print + Eprint), t: &[u32], file: &[u8], n: usize) -> bool {
     let mut s = index::start(t);
     let mut i = 0;
     while i < n {
         s = index::advance(t, file, s);
         let e = s.entry;
-        if !print_row(e.record, &[e.place, e.parent, e.children]) {
+        if !print_row(rt, e.record, &[e.place, e.parent, e.children]) {
             return false;
         }
         i += 1;
@@ -22,27 +23,28 @@ fn print_entries(t: &[u32], file: &[u8], n: usize) -> bool {
 }
 
 // Prints the index of a file. A file has no more entries than bytes, so that with this room none is refused for want of it.
-fn index_in(flow: &[u8], file: &[u8]) -> Ending {
+fn index_in(rt: &(impl Print + Eprint), flow: &[u8], file: &[u8]) -> Ending {
     let said = index::begin(flow, file, file.len()).answer;
     match said {
-        Indexed::Refused(r) => refuse(flow, BAR, file, r),
+        Indexed::Refused(r) => refuse(rt, flow, BAR, file, r),
         Indexed::Filled { records, entries } => {
             let t = index::numbers_for(flow);
             well(
-                print_numbers(b"ok", &[0, records, entries, 0]) && print_entries(&t, file, entries),
+                print_numbers(rt, b"ok", &[0, records, entries, 0])
+                    && print_entries(rt, &t, file, entries),
             )
         }
     }
 }
 
 // index FLOW FILE
-pub fn index_of(room: &mut [u8]) -> Ending {
-    let file = load_word(3, room);
+pub fn index_of(rt: &(impl Env + Files + Print + Eprint), room: &mut [u8]) -> Ending {
+    let file = load_word(rt, 3, room);
     if !file.read {
         return Ending::Hindered;
     }
     let size = file.size;
     let mut flow = io::large_buffer();
-    let f = os::arg(2, &mut flow);
-    index_in(&flow[..f], &room[..size])
+    let f = stream::arg(rt, 2, &mut flow);
+    index_in(rt, &flow[..f], &room[..size])
 }

@@ -8,6 +8,7 @@ use judge::Judged;
 use place::Refusal;
 use printing::print_accepted;
 use record::BAR;
+use std::rt::{Env, Files};
 use stream::{Ending, print, print_number};
 
 // What came of one file; it is unwritten where its answer could not be written.
@@ -29,19 +30,25 @@ pub struct Tally {
 }
 
 // Prints a refusal of a file or a sheet, the sentence on it, and the byte that it points at.
-pub fn print_refusal(flow: &[u8], sep: u8, file: &[u8], r: Refusal) -> bool
+pub fn print_refusal(
+    rt: &(impl Print + Eprint),
+    flow: &[u8],
+    sep: u8,
+    file: &[u8],
+    r: Refusal,
+) -> bool
     requires { Placed sep file.now r }
 {
-    printing::print_refusal(r)
-        && sentences::about_file(flow, sep, file, r)
-        && pointing::point(sep, file, r)
+    printing::print_refusal(rt, r)
+        && sentences::about_file(rt, flow, sep, file, r)
+        && pointing::point(rt, sep, file, r)
 }
 
 // Ends a command with a refusal of a file or a sheet.
-pub fn refuse(flow: &[u8], sep: u8, file: &[u8], r: Refusal) -> Ending
+pub fn refuse(rt: &(impl Print + Eprint), flow: &[u8], sep: u8, file: &[u8], r: Refusal) -> Ending
     requires { Placed sep file.now r }
 {
-    refused(print_refusal(flow, sep, file, r))
+    refused(print_refusal(rt, flow, sep, file, r))
 }
 
 // What came of a file whose answer may not have been written.
@@ -50,33 +57,39 @@ fn written_or(written: bool, o: Outcome) -> Outcome {
 }
 
 // Judges the bytes of a file and prints the answer.
-fn judge_bytes(flow: &[u8], file: &[u8]) -> Outcome {
+fn judge_bytes(rt: &(impl Print + Eprint), flow: &[u8], file: &[u8]) -> Outcome {
     match judge::judge(flow, file) {
-        Judged::Accepted(records) => written_or(print_accepted(records), Outcome::Accepted),
-        Judged::Refused(r) => written_or(print_refusal(flow, BAR, file, r), Outcome::Refused),
+        Judged::Accepted(records) => written_or(print_accepted(rt, records), Outcome::Accepted),
+        Judged::Refused(r) => written_or(print_refusal(rt, flow, BAR, file, r), Outcome::Refused),
     }
 }
 
 // Prints a file's name in front of its answer.
-fn print_name(path: &[u8]) -> bool {
-    stream::print_shown(path) && print(b"\t")
+fn print_name(rt: &(impl Print + Eprint), path: &[u8]) -> bool {
+    stream::print_shown(rt, path) && print(rt, b"\t")
 }
 
 // Judges the file that word i names; its name stands in front of the answer where it is asked.
-fn judge_word(flow: &[u8], i: usize, named: bool, room: &mut [u8]) -> Outcome {
+fn judge_word(
+    rt: &(impl Env + Files + Print + Eprint),
+    flow: &[u8],
+    i: usize,
+    named: bool,
+    room: &mut [u8],
+) -> Outcome {
     let mut path = io::large_buffer();
-    let n = os::arg(i, &mut path);
-    let loaded = stream::load(b"rig", &path[..n], room);
+    let n = stream::arg(rt, i, &mut path);
+    let loaded = stream::load(rt, b"rig", &path[..n], room);
     if !loaded.read {
         return Outcome::Unread;
     }
     if named {
-        if !print_name(&path[..n]) {
+        if !print_name(rt, &path[..n]) {
             return Outcome::Unwritten;
         }
     }
     let size = loaded.size;
-    judge_bytes(flow, &room[..size])
+    judge_bytes(rt, flow, &room[..size])
 }
 
 // The tally with one file more.
@@ -113,23 +126,23 @@ fn counted(t: Tally, o: Outcome) -> Tally
 }
 
 // How many files were not read, where some were not.
-fn print_unread(unread: usize) -> bool {
+fn print_unread(rt: &(impl Print + Eprint), unread: usize) -> bool {
     if unread == 0 {
         return true;
     }
-    print(b", ") && print_number(unread as u64) && print(b" not read")
+    print(rt, b", ") && print_number(rt, unread as u64) && print(rt, b" not read")
 }
 
 // Prints the last line of a run over many files.
-fn print_tally(files: usize, t: Tally) -> bool {
-    print_number(files as u64)
-        && print(b" files, ")
-        && print_number(t.accepted as u64)
-        && print(b" accepted, ")
-        && print_number(t.refused as u64)
-        && print(b" refused")
-        && print_unread(t.unread)
-        && print(b"\n")
+fn print_tally(rt: &(impl Print + Eprint), files: usize, t: Tally) -> bool {
+    print_number(rt, files as u64)
+        && print(rt, b" files, ")
+        && print_number(rt, t.accepted as u64)
+        && print(rt, b" accepted, ")
+        && print_number(rt, t.refused as u64)
+        && print(rt, b" refused")
+        && print_unread(rt, t.unread)
+        && print(rt, b"\n")
 }
 
 // How a run over many files ends: a file that was not read weighs more than one that was refused.
@@ -149,7 +162,13 @@ fn ending_of(t: Tally) -> Ending
 }
 
 // Judges the files that the words from 3 on name, up to an answer that can't be written.
-fn judge_all(flow: &[u8], count: usize, named: bool, room: &mut [u8]) -> Tally
+fn judge_all(
+    rt: &(impl Env + Files + Print + Eprint),
+    flow: &[u8],
+    count: usize,
+    named: bool,
+    room: &mut [u8],
+) -> Tally
     requires { 3 < count }
     ensures { result.written ≡ true → result.accepted + result.refused + result.unread + 3 ≡ count }
 {
@@ -161,7 +180,7 @@ fn judge_all(flow: &[u8], count: usize, named: bool, room: &mut [u8]) -> Tally
     };
     let mut i = 3;
     while i < count {
-        t = counted(t, judge_word(flow, i, named, room));
+        t = counted(t, judge_word(rt, flow, i, named, room));
         if !t.written {
             return t;
         }
@@ -171,16 +190,20 @@ fn judge_all(flow: &[u8], count: usize, named: bool, room: &mut [u8]) -> Tally
 }
 
 // judge FLOW FILE, and for more than one file each name before its answer, and a tally.
-pub fn judge_files(count: usize, room: &mut [u8]) -> Ending
+pub fn judge_files(
+    rt: &(impl Env + Files + Print + Eprint),
+    count: usize,
+    room: &mut [u8],
+) -> Ending
     requires { 3 < count }
 {
     let mut flow = io::large_buffer();
-    let f = os::arg(2, &mut flow);
+    let f = stream::arg(rt, 2, &mut flow);
     if count == 4 {
-        return ending_of(judge_all(&flow[..f], count, false, room));
+        return ending_of(judge_all(rt, &flow[..f], count, false, room));
     }
-    let t = judge_all(&flow[..f], count, true, room);
-    if t.written && print_tally(count - 3, t) {
+    let t = judge_all(rt, &flow[..f], count, true, room);
+    if t.written && print_tally(rt, count - 3, t) {
         return ending_of(t);
     }
     Ending::Hindered

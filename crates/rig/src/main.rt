@@ -1,16 +1,16 @@
 // The rig: one program for people at the bench. It prints the answer's line and, for a refusal, a
 // sentence on it and the byte that it points at. What hinders a call is said on standard error.
 #![tactic(auto)]
+
 mod arguments;
 mod asking;
 mod call;
-mod forcing;
 mod indexing;
 mod judging;
 mod making;
 
 // One byte more than a file may have, so that a file that is too long shows.
-fn main() {
+fn main(rt: HostRuntime) {
     let mut room = [0u8; 1048577];
-    stream::end(call::run(&mut room));
+    stream::end(&rt, call::run(&rt, &mut room));
 }

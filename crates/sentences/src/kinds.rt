@@ -2,12 +2,12 @@
 use stream::print;
 
 // The names of the kinds in a set of them.
-pub fn say_kinds(t: &[u32], set: usize) -> bool {
+pub fn say_kinds(rt: &(impl Print + Eprint), t: &[u32], set: usize) -> bool {
     let rows = layout::row_count(t);
     let mut k = 1;
     while k < rows {
         if layout::among(k, set) {
-            if !(print(b" ") && print(&layout::name_of(t, k))) {
+            if !(print(rt, b" ") && print(rt, &layout::name_of(t, k))) {
                 return false;
             }
         }
@@ -17,10 +17,10 @@ pub fn say_kinds(t: &[u32], set: usize) -> bool {
 }
 
 // The kinds that may follow a kind.
-pub fn say_followers(t: &[u32], kind: usize) -> bool {
+pub fn say_followers(rt: &(impl Print + Eprint), t: &[u32], kind: usize) -> bool {
     let set = layout::followers(t, kind);
     if set == 0 {
-        return print(b"; nothing may stand here");
+        return print(rt, b"; nothing may stand here");
     }
-    print(b"; here may stand:") && say_kinds(t, set)
+    print(rt, b"; here may stand:") && say_kinds(rt, t, set)
 }

@@ -1,9 +1,9 @@
 // What is said to people about a refusal: where it is, the rule, what was found and what would be right.
 // Each sentence is one line on standard output; its function says whether all of it was written.
 #![tactic(auto)]
+
 mod ask;
 mod calendar;
-mod force;
 mod form;
 mod found;
 mod heading;
@@ -15,7 +15,6 @@ mod say;
 mod step;
 
 pub use ask::about_field;
-pub use force::{about_no_record, about_one_of_two, about_record};
 pub use found::about_file;
 pub use period::about_period;
 pub use refusals::{explain, rule};

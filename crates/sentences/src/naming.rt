@@ -2,12 +2,10 @@
 use crate::{refusals, say};
 use stream::print;
 
-// The sentence on the part of a caller's words that is refused with a number.
-pub fn about_part(part: &[u8], number: usize) -> bool {
-    print(b"The rule: ") && refusals::rule(number) && say::found(part) && print(b".\n")
-}
-
 // The sentence on words that are refused with a number.
-pub fn about_words(words: &[u8], number: usize) -> bool {
-    about_part(findings::refused_part(words, number), number)
+pub fn about_words(rt: &(impl Print + Eprint), words: &[u8], number: usize) -> bool {
+    print(rt, b"The rule: ")
+        && refusals::rule(rt, number)
+        && say::found(rt, findings::refused_part(words, number))
+        && print(rt, b".\n")
 }

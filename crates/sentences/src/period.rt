@@ -5,16 +5,24 @@ use record::BAR;
 use stream::print;
 
 // That there is no such period, and which there are.
-fn say_no_period(period: usize) -> bool {
-    print(b"There is no period ") && say::number(period) && print(b": periods are 1 to 50.\n")
+fn say_no_period(rt: &(impl Print + Eprint), period: usize) -> bool {
+    print(rt, b"There is no period ")
+        && say::number(rt, period)
+        && print(rt, b": periods are 1 to 50.\n")
 }
 
 // The sentence on a refusal: 18 is of the period, 22 of the flow, any other of the words or the file, as the reader gives it.
-pub fn about_period(flow: &[u8], file: &[u8], period: usize, r: Refusal) -> bool {
+pub fn about_period(
+    rt: &(impl Print + Eprint),
+    flow: &[u8],
+    file: &[u8],
+    period: usize,
+    r: Refusal,
+) -> bool {
     let number = r.number;
     match number {
-        18 => say_no_period(period),
-        22 => naming::about_words(flow, number),
-        _ => found::about_file(flow, BAR, file, r),
+        18 => say_no_period(rt, period),
+        22 => naming::about_words(rt, flow, number),
+        _ => found::about_file(rt, flow, BAR, file, r),
     }
 }

@@ -1,55 +1,61 @@
 // Reads and writes of the system. A call that was interrupted is made again, and one that failed is
 // told apart from the end of the input. A proved loop has to end, and nothing says that interruptions
 // do: so the loops count their tries down, from a number that no run uses up.
-ghost use Rattle.std.specs.Prelude.{◌≡◌, false};
-ghost use Rattle.stream.specs.File.{Loads};
+ghost use Rattle.std.specs.Prelude.{◌≡◌, true, false};
+ghost use Rattle.std.specs.Io.{ReadsAtMost, WritesAtMost};
 
 use crate::file::Loaded;
+use std::io::{Error, ErrorKind, Read, Write};
 
-// One read: how many bytes came, 0 at the end of the input; or below 0, where it failed.
-pub fn read_some(fd: i32, room: &mut [u8]) -> isize {
+// One read: how many bytes came, 0 at the end of the input; or why it failed.
+pub fn read_some<R: Read>(from: &mut R, room: &mut [u8]) -> std::io::Result<usize>
+    ensures { ReadsAtMost result room.new }
+{
     let mut tries = u64::MAX;
     while 0 < tries {
-        let got = libc::read(fd, room);
-        if 0 <= got {
-            return got;
-        }
-        if os::errno() != libc::EINTR {
-            return got;
+        match from.read(room) {
+            Ok(got) => return Ok(got),
+            Err(e) => {
+                if e.kind() != ErrorKind::Interrupted {
+                    return Err(e);
+                }
+            }
         }
         tries -= 1;
     }
-    -1
+    Err(Error::from(ErrorKind::Interrupted))
 }
 
-// One write: how many bytes were taken; or below 0, where it failed.
-fn write_some(fd: i32, bytes: &[u8]) -> isize {
+// One write: how many bytes were taken; or why it failed.
+fn write_some<W: Write>(to: &mut W, bytes: &[u8]) -> std::io::Result<usize>
+    ensures { WritesAtMost result bytes.now }
+{
     let mut tries = u64::MAX;
     while 0 < tries {
-        let put = libc::write(fd, bytes);
-        if 0 <= put {
-            return put;
-        }
-        if os::errno() != libc::EINTR {
-            return put;
+        match to.write(bytes) {
+            Ok(put) => return Ok(put),
+            Err(e) => {
+                if e.kind() != ErrorKind::Interrupted {
+                    return Err(e);
+                }
+            }
         }
         tries -= 1;
     }
-    -1
+    Err(Error::from(ErrorKind::Interrupted))
 }
 
-// Writes all bytes, and gives whether that was done.
-pub fn write_whole(fd: i32, bytes: &[u8]) -> bool {
+// Writes all bytes, or gives why that could not be done.
+pub fn write_whole<W: Write>(to: &mut W, bytes: &[u8]) -> std::io::Result<()> {
     let mut done = 0;
     while done < bytes.len() {
-        let rest = &bytes[done..];
-        let n = io::count(write_some(fd, rest), rest);
+        let n = write_some(to, &bytes[done..])?;
         if n == 0 {
-            return false;
+            return Err(Error::from(ErrorKind::WriteZero));
         }
         done += n;
     }
-    true
+    Ok(())
 }
 
 // What a read that failed leaves.
@@ -62,24 +68,27 @@ pub fn unread() -> Loaded
     }
 }
 
-// Reads until the room is full or the input ends.
-pub fn read_whole(fd: i32, room: &mut [u8]) -> Loaded
-    ensures { Loads room.new result.read result.size }
+// What a read of so many bytes leaves.
+pub fn loaded(size: usize) -> Loaded
+    ensures { (result.read ≡ true) × (result.size ≡ size) }
+{
+    Loaded {
+        read: true,
+        size: size,
+    }
+}
+
+// Reads until the room is full or the input ends, and gives how many bytes came; or why that failed.
+pub fn read_whole<R: Read>(from: &mut R, room: &mut [u8]) -> std::io::Result<usize>
+    ensures { ReadsAtMost result room.new }
 {
     let mut done = 0;
     while done < room.len() {
-        let got = read_some(fd, &mut room[done..]);
-        if got < 0 {
-            return unread();
-        }
-        let n = io::count(got, &room[done..]);
+        let n = read_some(from, &mut room[done..])?;
         if n == 0 {
             break;
         }
         done += n;
     }
-    Loaded {
-        read: true,
-        size: done,
-    }
+    Ok(done)
 }

@@ -1,38 +1,69 @@
-// What hinders a program, said on standard error. Where the system's word on it is said too, the
-// sentence is made first and handed over whole, so that no call comes between the failure and its word.
-use crate::calls::write_whole;
-use crate::line::put;
-use crate::output::write_shown;
-use libc::STDERR_FILENO;
+// What hinders a program, said on standard error. Where the system's word on it is said too, it comes
+// with the error that the call gave.
+use crate::line::{least, put};
+use std::fmt::InlineText;
+use std::io::Error;
 
-// Writes to standard error. Where that fails, there is nowhere left to say it.
-pub fn tell(bytes: &[u8]) {
-    write_whole(STDERR_FILENO, bytes);
+// Writes to standard error; bytes that are no text are written as people can read them. Where that
+// fails, there is nowhere left to say it.
+pub fn tell(rt: &impl Eprint, bytes: &[u8]) {
+    match std::str::from_utf8(bytes) {
+        Ok(text) => {
+            let _ = rt.eprint(text);
+        }
+        Err(_) => tell_shown(rt, bytes),
+    }
 }
 
 // Writes a number to standard error.
-pub fn tell_number(n: u64) {
-    let mut digits = [0u8; 20];
-    let k = io::decimal(n, &mut digits);
-    tell(&digits[..k]);
+pub fn tell_number(rt: &impl Eprint, n: u64) {
+    let _ = rt.eprint(n);
+}
+
+// Writes at most 1,024 bytes to standard error as people can read them: each takes at most four.
+fn tell_part_shown(rt: &impl Eprint, part: &[u8]) {
+    let mut line = [0u8; 4096];
+    let n = legible::show(part, &mut line);
+    if let Ok(text) = std::str::from_utf8(&line[..n]) {
+        let _ = rt.eprint(text);
+    }
 }
 
 // Writes bytes to standard error as people can read them.
-pub fn tell_shown(bytes: &[u8]) {
-    write_shown(STDERR_FILENO, bytes);
+pub fn tell_shown(rt: &impl Eprint, bytes: &[u8]) {
+    let mut at = 0;
+    while at < bytes.len() {
+        let end = at + least(1024, bytes.len() - at);
+        tell_part_shown(rt, &bytes[at..end]);
+        at = end;
+    }
 }
 
 // Says what hinders a program.
-pub fn complain(program: &[u8], why: &[u8]) {
-    tell(program);
-    tell(b": ");
-    tell(why);
-    tell(b"\n");
+pub fn complain(rt: &impl Eprint, program: &[u8], why: &[u8]) {
+    tell(rt, program);
+    tell(rt, b": ");
+    tell(rt, why);
+    tell(rt, b"\n");
+}
+
+// Says what failed, a colon and the system's word on it, without the error's number.
+pub fn fail(rt: &impl Eprint, what: &[u8], e: Error) {
+    let said = InlineText::<256>::of(e);
+    let all = said.as_str();
+    let word = match all.split_once(" (os error ") {
+        Some((before, _)) => before,
+        None => all,
+    };
+    tell(rt, what);
+    tell(rt, b": ");
+    tell(rt, word.as_bytes());
+    tell(rt, b"\n");
 }
 
 // Says what a program can't do with a file, and the system's word on it. The name is shown, as much of
 // it as 16,384 bytes hold: each of the 4,095 bytes that a path may have takes at most four.
-pub fn complain_of(program: &[u8], what: &[u8], path: &[u8]) {
+pub fn complain_of(rt: &impl Eprint, program: &[u8], what: &[u8], path: &[u8], e: Error) {
     let mut name = [0u8; 16384];
     let n = legible::show(path, &mut name);
     let mut line = [0u8; 16640];
@@ -42,13 +73,13 @@ pub fn complain_of(program: &[u8], what: &[u8], path: &[u8]) {
     let at = put(&mut line, at, b" '");
     let at = put(&mut line, at, &name[..n]);
     let at = put(&mut line, at, b"'");
-    os::fail(&line[..at]);
+    fail(rt, &line[..at], e);
 }
 
 // Says that a program can't read standard input, and the system's word on it.
-pub fn complain_of_input(program: &[u8]) {
+pub fn complain_of_input(rt: &impl Eprint, program: &[u8], e: Error) {
     let mut line = [0u8; 128];
     let at = put(&mut line, 0, program);
     let at = put(&mut line, at, b": can't read standard input");
-    os::fail(&line[..at]);
+    fail(rt, &line[..at], e);
 }

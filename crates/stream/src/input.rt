@@ -4,7 +4,6 @@ ghost use Rattle.stream.specs.Window.{Within, GrownBy};
 
 use crate::calls::read_some;
 use crate::complaint::complain_of_input;
-use libc::STDIN_FILENO;
 
 // The bytes of a window that are read and not used yet: those from `from` up to `to`.
 #[derive(Clone, Copy)]
@@ -40,7 +39,7 @@ fn to_front(window: &mut [u8], u: Unread) -> Unread
 }
 
 // One read of standard input, behind the unread bytes; where it fails, it says why.
-fn read_on(program: &[u8], window: &mut [u8], u: Unread) -> Reading
+fn read_on(rt: &(impl Input + Eprint), program: &[u8], window: &mut [u8], u: Unread) -> Reading
     requires { Within window.old u.from u.to }
     ensures { GrownBy window.old u.from u.to window.new result }
 {
@@ -48,30 +47,28 @@ fn read_on(program: &[u8], window: &mut [u8], u: Unread) -> Reading
     if to == window.len() {
         return Reading::Full(u);
     }
-    let got = read_some(STDIN_FILENO, &mut window[to..]);
-    if got < 0 {
-        complain_of_input(program);
-        return Reading::Failed;
+    match read_some(&mut rt.reader(), &mut window[to..]) {
+        Ok(0) => Reading::Ended(u),
+        Ok(n) => Reading::Came(Unread {
+            from: u.from,
+            to: to + n,
+        }),
+        Err(e) => {
+            complain_of_input(rt, program, e);
+            Reading::Failed
+        }
     }
-    let n = io::count(got, &window[to..]);
-    if n == 0 {
-        return Reading::Ended(u);
-    }
-    Reading::Came(Unread {
-        from: u.from,
-        to: to + n,
-    })
 }
 
 // One read of standard input; where the window is read to its end, the unread bytes first move to
 // its front.
-pub fn more(program: &[u8], window: &mut [u8], u: Unread) -> Reading
+pub fn more(rt: &(impl Input + Eprint), program: &[u8], window: &mut [u8], u: Unread) -> Reading
     requires { Within window.old u.from u.to }
     ensures { GrownBy window.old u.from u.to window.new result }
 {
     if u.to < window.len() {
-        return read_on(program, window, u);
+        return read_on(rt, program, window, u);
     }
     let front = to_front(window, u);
-    read_on(program, window, front)
+    read_on(rt, program, window, front)
 }

@@ -1,6 +1,7 @@
 // Standard input, whole or through a lent window, files by name, bytes on standard output, sentences on
 // standard error, and how a run ends. Nothing is lost in silence.
 #![tactic(auto)]
+
 mod calls;
 mod complaint;
 mod ending;
@@ -8,6 +9,8 @@ mod file;
 mod input;
 mod line;
 mod output;
+mod path;
+mod words;
 
 pub use calls::write_whole;
 pub use complaint::{complain, complain_of, tell, tell_number, tell_shown};
@@ -16,3 +19,5 @@ pub use file::{Loaded, load, load_input};
 pub use input::{Reading, Unread, more};
 pub use line::{least, put, put_number};
 pub use output::{print, print_number, print_shown};
+pub use path::{create, remove};
+pub use words::{arg, arg_count};
