@@ -1,5 +1,5 @@
-/* The screen for C: judges pool transfer files of the British electricity market. Link target/staticlib/libscreen.a, which
-   `rt staticlib screen` builds for x86-64 Linux; it needs memcpy and memset of the C library and nothing else. Each function
+/* The screen for C: judges pool transfer files of the British electricity market. Link crates/screen/out/libscreen.a, which
+   `rt lib` in crates/screen builds for x86-64 Linux; it needs memcpy and memset of the C library and nothing else. Each function
    is proved to give the answer that its contract in crates/screen states, for all bytes and numbers. example.c calls every one.
 
    What a caller has to see to, since C can't state it:

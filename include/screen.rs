@@ -3,8 +3,8 @@
 //!
 //! A flow is asked for by its name, or by that, a space and an edition: `b"P0133001 711"`.
 //!
-//! Link `target/staticlib/libscreen.a`, for x86-64 Linux, which `rt staticlib screen` builds. In a `build.rs`:
-//! `println!("cargo:rustc-link-search=native=target/staticlib"); println!("cargo:rustc-link-lib=static=screen");`
+//! Link `crates/screen/out/libscreen.a`, for x86-64 Linux, which `rt lib` in crates/screen builds. In a `build.rs`:
+//! `println!("cargo:rustc-link-search=native=crates/screen/out"); println!("cargo:rustc-link-lib=static=screen");`
 
 // The codes of types.
 pub const SCREEN_TEXT: u32 = 0;

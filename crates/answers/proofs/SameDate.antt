@@ -1,12 +1,11 @@
 -- Document 02's C-11: under a SUB the dates of SP7 may be equal and may not fall; every other key rises; a key starts anew as before.
 -- The texts are written out from the papers, and their footers are summed apart from the definitions. Assumes nothing.
-use Prim.Native.Nat.{ℕ}
 use Prim.Native.String.{String}
 use mathlib.Core.List.{List, [], ◌∷◌, ◌++◌}
 use Rattle.text.specs.Characters.{bytes}
-use Rattle.judge.specs.File.{accepted, refused}
+use Rattle.judge.specs.File.{accepted}
 use Rattle.sheet.specs.Write as of_sheet
-use Rattle.answers.proofs.Cases.{lines, copies, Case, judging, writing, reading, behind, bad}
+use Rattle.answers.proofs.Cases.{lines, copies, Case, judging, reading, behind, bad}
 
 -- how files of P0164, P0181 and P0012 begin
 abbrev zhd : String

@@ -12,7 +12,7 @@ use lib.ListN.{length, take, drop, length-append, take-append-drop}
 use lib.Seq.{append_snoc, take_at, take-take}
 use Rattle.grammar.specs.Sets.{Sets, Under}
 use Rattle.grammar.specs.Right.{Completes, StoppedRight, ThroughRight}
-use Rattle.grammar.specs.Walk.{after, Once, At, start, last, to_read, may, ends, Walked, stopped, through, walk, Goes, Ended, RightWalk}
+use Rattle.grammar.specs.Walk.{Once, At, start, last, to_read, may, ends, Walked, stopped, through, walk, Goes, Ended, RightWalk}
 use Rattle.text.proofs.Tests.{cond_true, cond_false, by_test}
 use Rattle.grammar.proofs.Runs.{Run, run_one, one_run, nulls_yes, nulls_of, some_run}
 use Rattle.grammar.proofs.Left.{Good, good, whole_fits, firsts_has, run_sound, run_begins}

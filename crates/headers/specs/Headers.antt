@@ -1,5 +1,5 @@
 -- What the header of a case in a stream says: the form of each case, and what can be wrong with it. Assumes nothing.
-use Rattle.std.specs.Prelude.{ℕ, ◌-◌, Bool, cond, not, List, eqb, length}
+use Rattle.std.specs.Prelude.{ℕ, ◌-◌, cond, not, List, eqb, length}
 use Rattle.text.specs.Characters.{bytes}
 use Rattle.text.specs.Rules.{must}
 use Rattle.text.specs.Order.{same_bytes}
@@ -16,7 +16,6 @@ use Rattle.headers.specs.declared.Ask.{Ask}
 use Rattle.headers.specs.declared.Ask.TheVariants as asks
 use Rattle.headers.specs.declared.Making.{Making}
 use Rattle.headers.specs.declared.Making.TheVariants.{Write, Read, Export, Import}
-use Rattle.headers.specs.declared.Case.{Case}
 use Rattle.headers.specs.declared.Fault.{Fault}
 use Rattle.headers.specs.declared.Fault.TheVariants as faults
 use Rattle.headers.specs.declared.Header.{Header}

@@ -1,14 +1,14 @@
 -- What the loop over a file keeps: the state is the summary of the records passed, and the slots say their last keys. Assumes nothing.
-use Prim.Native.Nat.{ℕ, zero, suc, ◌+◌, ◌-◌, ◌*◌, ◌≤◌, ◌<◌, ◌^◌, zero-le}
+use Prim.Native.Nat.{ℕ, ◌+◌, ◌*◌, ◌≤◌, ◌<◌, ◌^◌, zero-le}
 use mathlib.Core.Path.{◌≡◌, refl, sym, ap, ◌∙◌}
 use mathlib.Core.List.{List, [], ◌∷◌, ◌++◌, foldl-append, map, map-append, append-nil}
 use native.Mathlib.Omega.{arith}
 use lib.Dec.{leb}
 use borrow.Author.Tests.{lt-leb, le-leb}
-use lib.ListN.{length, get_or, take, drop, length-append, length-take, replicate}
-use lib.Seq.{drop-drop, take-take, take-nil, append_snoc}
+use lib.ListN.{length, get_or, take, drop, length-append, replicate}
+use lib.Seq.{append_snoc}
 use Rattle.text.specs.Rules.{must}
-use Rattle.record.specs.Records.{records, barred, IsPart, bar}
+use Rattle.record.specs.Records.{records, barred, bar}
 use Rattle.checksum.specs.Checksum.{add_record, checksum}
 use Rattle.record.proofs.Cutting.{records_le}
 use Rattle.checksum.proofs.Sums.{checksum_snoc}

@@ -14,7 +14,7 @@ use Rattle.text.specs.Characters.{from_to}
 use Rattle.text.specs.Order.{same_bytes}
 use Rattle.text.proofs.Inverse.{same_said}
 use Rattle.record.specs.Records.{onto, records, extent, bar}
-use Rattle.place.specs.Places.{field_start, place_at, refusal, whole}
+use Rattle.place.specs.Places.{field_start, place_at, refusal}
 use Rattle.layout.specs.Layout.{Layout}
 use Rattle.flow.specs.Letters.{P0012001}
 use Rattle.flow.specs.Publication.{Flow, layout_for}

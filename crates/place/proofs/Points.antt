@@ -1,12 +1,10 @@
 -- What a place points at: the bytes there are the field's or the record's, and the code's two searches find it. Assumes nothing.
 use Prim.Native.Nat.{ℕ, ◌+◌, ◌-◌, ◌≤◌, ◌<◌}
-use mathlib.Core.Path.{◌≡◌, refl, sym, ap, ◌∙◌}
-use mathlib.Core.Bool.{Bool, true, false, cond}
-use mathlib.Core.List.{List, []}
+use mathlib.Core.Path.{◌≡◌, sym, ap, ◌∙◌}
+use mathlib.Core.List.{List}
 use native.Mathlib.Omega.{arith}
-use lib.ListN.{length, get_or, take, drop}
+use lib.ListN.{length, take, drop}
 use borrow.Author.Tests.{le-leb, lt-leb, eq-eqb, ne_eqb}
-use Rattle.text.specs.Rules.{must}
 use Rattle.record.specs.Records.{records, fields, field, extent, IsPart}
 use Rattle.record.specs.Found.{Stands}
 use Rattle.record.proofs.Cutting.{part_as}

@@ -1,5 +1,4 @@
 -- `judge_record` is right: its tests are those of 3, of 4 and 5, of 6 to 10, and of 11 to 13, in their order.
-use borrow.Author.Rules.{rules}
 use Prim.Native.Nat.{ℕ}
 use mathlib.Core.Path.{sym, ◌∙◌}
 use mathlib.Core.List.{List}

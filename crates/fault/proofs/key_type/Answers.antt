@@ -1,5 +1,4 @@
 -- `key_type` is right: the key's type is that of the rule two places before the key's number.
-use borrow.Author.Rules.{rules}
 use Prim.Native.Nat.{ℕ, ◌-◌}
 use mathlib.Core.Path.{◌∙◌, ap}
 use mathlib.Core.List.{[]}

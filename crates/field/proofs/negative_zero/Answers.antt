@@ -1,6 +1,5 @@
 -- Each return is one part of what negativeZero asks. Assumes nothing.
 use mathlib.Core.Path.{sym, ◌∙◌}
-use borrow.Author.Tests.{not-true, not-false}
 use Rattle.field.specs.Leaves.{negative_zero}
 use Rattle.number.proofs.Rules.{tests}
 use Rattle.field.proofs.negative_zero.Goals as goal

@@ -1,5 +1,4 @@
 -- `answer_by` is right: type, mark and fixed bytes are those of the rule for field `k`, or null's where the kind has no such rule.
-use borrow.Author.Rules.{rules}
 use mathlib.Core.List.{[]}
 use native.Mathlib.Omega.{arith}
 use Rattle.value.proofs.Ruled.{ruled, unruled}
