@@ -1,6 +1,7 @@
 // The eleven public parts under C names. An answer is four numbers in a lent array: include/screen.h says what each cell holds.
 // A flow is asked for by words: its name, or that, a space and an edition.
 #![tactic(auto)]
+
 ghost use Rattle.std.specs.Prelude.{◌≡◌, List, ℕ, length};
 ghost use Rattle.checksum.specs.Checksum.{checksum_of};
 ghost use Rattle.field.specs.Judge.{marked};
