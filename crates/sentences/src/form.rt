@@ -10,7 +10,7 @@ fn wide(rt: &(impl Print + Eprint), name: &[u8], n: usize) -> bool {
 
 // The name and the two widths of a dec.
 fn dec(rt: &(impl Print + Eprint), p: usize, q: usize) -> bool {
-    print(rt, b"dec(rt, ")
+    print(rt, b"dec(")
         && say::number(rt, p)
         && print(rt, b",")
         && say::number(rt, q)
