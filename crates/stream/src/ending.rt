@@ -3,7 +3,6 @@
 use crate::calls::write_whole;
 use crate::complaint::fail;
 use std::fs::{OpenFile, OpenOptions, metadata};
-use std::io::ErrorKind;
 use std::rt::Files;
 
 // The channel of the closing word: descriptor 3.
