@@ -30,7 +30,7 @@ built_from() {
 # True where crates.txt lists the crate.
 listed() { # NAME
     NAME=$1 awk '
-        { sub(/#.*/, ""); at = index($0, ":"); name = substr($0, 1, at - 1); gsub(/[ \t]/, "", name) }
+        { sub(/#.*/, ""); at = index($0, ":"); name = substr($0, 1, at - 1); sub(/[ \t]+staticlib[ \t]*$/, "", name); gsub(/[ \t]/, "", name) }
         name == ENVIRON["NAME"] { found = 1 }
         END { exit !found }' "$top/crates.txt"
 }
