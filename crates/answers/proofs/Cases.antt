@@ -18,11 +18,11 @@ use Rattle.judge.specs.File as judge
 use Rattle.value.specs.Value.{valued}
 use Rattle.value.specs.Value as value
 use Rattle.sheet.specs.Sheets.{made, sheet_of}
-use Rattle.sheet.specs.Write.{written, output, paper}
+use Rattle.sheet.specs.Write.{Transfer, written, output, paper}
 use Rattle.sheet.specs.Write as sheet
 use Rattle.sheet.specs.Read.{read_to}
-use Rattle.sheet.specs.declared.Transfer.{Transfer}
-use Rattle.rfc4180.specs.Walk.{at_line, sheet_from}
+use Rattle.rfc4180.specs.declared.State.TheVariants.{AtLine}
+use Rattle.rfc4180.specs.Walk.{sheet_from}
 use Rattle.csv_text.specs.Export.{export_of, exported}
 use Rattle.csv_text.proofs.Computed.{computed as imported}
 use Rattle.index.specs.Entries.{indexed, listed}
@@ -102,7 +102,7 @@ given (of_type t m s r) = of_field (field_judged t m (bytes s))
 given (summing s n) = of_sum (checksum_of s)
 given (stepping flow kinds r) = of_step (stepped (asked (bytes flow)) (bytes kinds))
 given (exporting flow f old r new) = transferred (exported (asked (bytes flow)) f (length old)) (export_of f) old
-given (importing text old r new) = transferred (imported text (length old)) (sheet_from at_line text) old
+given (importing text old r new) = transferred (imported text (length old)) (sheet_from AtLine text) old
 given (indexing flow f old r new) = of_index (indexed (asked (bytes flow)) f (length old)) (listed (asked (bytes flow)) f old)
 given (finding flow f p r) = of_period (has_period (asked (bytes flow)) f p)
 

@@ -23,9 +23,9 @@ use Rattle.flow.specs.Editions.{a_flow, usual, asked}
 use Rattle.fault.specs.Fields.{field_fault, fields_fault}
 use Rattle.fault.specs.Record.{place_fault, shape_fault, key_fault, footer_fault, kind_fault}
 use Rattle.judge.specs.Record.{last_kind, key_with, key_before, fault}
-use Rattle.judge.specs.File.{checked_from, ended, judged_by, with_place}
-use Rattle.judge.specs.declared.Verdict.{Verdict}
-use Rattle.judge.specs.declared.Verdict.TheVariants.{Accepted, Refused}
+use Rattle.judge.specs.File.{unplaced, checked_from, ended, judged_by, with_place}
+use Rattle.std.specs.Prelude.{Result, Ok, Err}
+use Rattle.judge.specs.declared.Unplaced.{Unplaced}
 use Rattle.sheet.specs.Sheets.{tab, footer, made}
 use Rattle.sheet.specs.Write.{lines_ended, as_judged, fitted, written_by, written, done, refused}
 use Rattle.answers.proofs.Cases.{lines, copies, Case, writing, transferred, given, expected, Right}
@@ -113,7 +113,7 @@ sheets =
     ∷ []
 
 -- a sheet of a flow that is none of 2, 16 and 15 is judged as its made file
-module _ (fl : Flow) (sheet f old : List ℕ) (v : Verdict) where
+module _ (fl : Flow) (sheet f old : List ℕ) (v : Result ℕ Unplaced) where
   as_made :
       leb (length sheet) 1048000 ≡ true
       → holds 0x7C sheet ≡ false
@@ -125,23 +125,23 @@ module _ (fl : Flow) (sheet f old : List ℕ) (v : Verdict) where
   as_made b c d e j = rw (b, c, d, e, j) refl
 
 -- what the reader says of the made files
-example_judged : judged_by (layout_for p0138) example ≡ Accepted 4
+example_judged : judged_by (layout_for p0138) example ≡ Ok 4
 unfolding copies onto records fields field turned words add_record checksum minus unsigned plain int_form int_value dec_form dec_value spelled leap days_in is_day is_date is_time text_form form range value_of filled field_answer among find flow_number is_digit is_text field_fault fields_fault last_kind key_with key_before place_fault shape_fault key_fault footer_fault kind_fault fault checked_from ended judged_by
 example_judged = refl
 
-fixed_judged : judged_by (layout_for p0138) fixed_file ≡ Refused 10 2 2
+fixed_judged : judged_by (layout_for p0138) fixed_file ≡ Err (unplaced 10 2 2)
 unfolding copies onto records fields field turned words add_record checksum minus unsigned plain int_form int_value dec_form dec_value spelled leap days_in is_day is_date is_time text_form form range value_of filled field_answer among find flow_number is_digit is_text field_fault fields_fault last_kind key_with key_before place_fault shape_fault key_fault footer_fault kind_fault fault checked_from ended judged_by
 fixed_judged = refl
 
-footed_judged : judged_by (layout_for p0138) footed_file ≡ Refused 5 5 1
+footed_judged : judged_by (layout_for p0138) footed_file ≡ Err (unplaced 5 5 1)
 unfolding copies onto records fields field turned words add_record checksum minus unsigned plain int_form int_value dec_form dec_value spelled leap days_in is_day is_date is_time text_form form range value_of filled field_answer among find flow_number is_digit is_text field_fault fields_fault last_kind key_with key_before place_fault shape_fault key_fault footer_fault kind_fault fault checked_from ended judged_by
 footed_judged = refl
 
-newer_judged : judged_by (layout_for p0133_in_711) newer_file ≡ Accepted 4
+newer_judged : judged_by (layout_for p0133_in_711) newer_file ≡ Ok 4
 unfolding copies onto records fields field turned words add_record checksum minus unsigned plain int_form int_value dec_form dec_value spelled leap days_in is_day is_date is_time text_form form range value_of filled field_answer among find flow_number is_digit is_text field_fault fields_fault last_kind key_with key_before place_fault shape_fault key_fault footer_fault kind_fault fault checked_from ended judged_by
 newer_judged = refl
 
-older_judged : judged_by (layout_for p0133_in_711) older_file ≡ Refused 6 2 0
+older_judged : judged_by (layout_for p0133_in_711) older_file ≡ Err (unplaced 6 2 0)
 unfolding copies onto records fields field turned words add_record checksum minus unsigned plain int_form int_value dec_form dec_value spelled leap days_in is_day is_date is_time text_form form range value_of filled field_answer among find flow_number is_digit is_text field_fault fields_fault last_kind key_with key_before place_fault shape_fault key_fault footer_fault kind_fault fault checked_from ended judged_by
 older_judged = refl
 
@@ -150,12 +150,12 @@ pub sheets_right : Right sheets
 unfolding given expected sheets asked usual copies flow_number holds onto records fields extent field_start place_at
 sheets_right =
     λ i.
-    as_made p0138 sheet example (copies 88 120) (Accepted 4) refl refl refl example_made example_judged i
-    ∷ as_made p0138 sheet example (copies 90 120) (Accepted 4) refl refl refl example_made example_judged i
-    ∷ as_made p0138 sheet example (copies 87 120) (Accepted 4) refl refl refl example_made example_judged i
-    ∷ as_made p0138 fixed_sheet fixed_file (copies 88 120) (Refused 10 2 2) refl refl refl fixed_made fixed_judged i
-    ∷ as_made p0138 fixed_sheet fixed_file [] (Refused 10 2 2) refl refl refl fixed_made fixed_judged i
-    ∷ as_made p0138 footed_sheet footed_file (copies 110 120) (Refused 5 5 1) refl refl refl footed_made footed_judged i
-    ∷ as_made p0133_in_711 newer_sheet newer_file (copies 103 120) (Accepted 4) refl refl refl newer_made newer_judged i
-    ∷ as_made p0133_in_711 older_sheet older_file (copies 103 120) (Refused 6 2 0) refl refl refl older_made older_judged i
+    as_made p0138 sheet example (copies 88 120) (Ok 4) refl refl refl example_made example_judged i
+    ∷ as_made p0138 sheet example (copies 90 120) (Ok 4) refl refl refl example_made example_judged i
+    ∷ as_made p0138 sheet example (copies 87 120) (Ok 4) refl refl refl example_made example_judged i
+    ∷ as_made p0138 fixed_sheet fixed_file (copies 88 120) (Err (unplaced 10 2 2)) refl refl refl fixed_made fixed_judged i
+    ∷ as_made p0138 fixed_sheet fixed_file [] (Err (unplaced 10 2 2)) refl refl refl fixed_made fixed_judged i
+    ∷ as_made p0138 footed_sheet footed_file (copies 110 120) (Err (unplaced 5 5 1)) refl refl refl footed_made footed_judged i
+    ∷ as_made p0133_in_711 newer_sheet newer_file (copies 103 120) (Ok 4) refl refl refl newer_made newer_judged i
+    ∷ as_made p0133_in_711 older_sheet older_file (copies 103 120) (Err (unplaced 6 2 0)) refl refl refl older_made older_judged i
     ∷ []

@@ -13,7 +13,7 @@ use Rattle.place.specs.declared.Refusal.{Refusal}
 use Rattle.flow.specs.Publication.{Flow}
 use Rattle.flow.specs.Editions.{Asked, a_flow, no_flow, asked}
 use Rattle.judge.specs.File.{refused, judged_for, judged, paper}
-use Rattle.judge.specs.declared.Judged.TheVariants.{Refused}
+use Rattle.std.specs.Prelude.{Err}
 use Rattle.bench.specs.Bench.{first_line, asked_by, file_behind, benched_for, benched}
 
 -- where there is no record there is no byte
@@ -33,15 +33,13 @@ module _ (s : List ℕ) (start end : ℕ) (stands : Stands (records s) s 1 start
 
   -- its words
   abbrev words : List ℕ
-  words = take end s
-
-  words_are : words ≡ first_line s
-  words_are =
-      let size : end ≡ end - 0 = omega arith in
-      ap (λ (n : ℕ). take n s) size ∙ ap (λ (a : ℕ). take (end - a) (drop a s)) (sym at_front) ∙ stands.is.is
+  words = take (end - start) (drop start s)
 
   long : length (first_line s) ≡ end
-  long = ap length (sym words_are) ∙ length-take-le end s stands.is.within
+  long =
+      let fits : end - start ≤ length (drop start s) = simp length-drop (omega (arith, stands.is.within)) in
+      let size : length words ≡ end - start = length-take-le (end - start) (drop start s) fits in
+      ap length (sym stands.is.is) ∙ size ∙ omega (arith, at_front)
 
   pub not_ended : end ≡ length s → refused 1 0 0 0 ≡ benched s
   unfolding benched judged judged_for
@@ -53,7 +51,7 @@ module _ (s : List ℕ) (start end : ℕ) (stands : Stands (records s) s 1 start
     file = take (length s - (end + 1)) (drop (end + 1) s)
 
     asks : asked words ≡ asked_by s
-    asks = rw (le-leb (length (first_line s) + 1) (length s) (omega (arith, long, stands.is.within, more))) (ap asked words_are)
+    asks = rw (le-leb (length (first_line s) + 1) (length s) (omega (arith, long, stands.is.within, more))) (ap asked stands.is.is)
 
     file_is : file ≡ file_behind s
     file_is =
@@ -64,7 +62,7 @@ module _ (s : List ℕ) (start end : ℕ) (stands : Stands (records s) s 1 start
     unfolding benched
     answered = λ i. benched_for (asks i) (file_is i)
 
-    pub no_flow_lem : (r : Refusal) → no_flow r ≡ asked words → paper (Refused r) ≡ benched s
+    pub no_flow_lem : (r : Refusal) → no_flow r ≡ asked words → paper (Err r) ≡ benched s
     unfolding judged judged_for
     no_flow_lem r e = ap (λ (a : Asked). benched_for a file) e ∙ answered
 
@@ -72,7 +70,7 @@ module _ (s : List ℕ) (start end : ℕ) (stands : Stands (records s) s 1 start
       pub too_long : 65536 < length file → refused 2 0 0 0 ≡ benched s
       too_long h = (rw (lt-leb (length file) 65536 h)) ∙ ap (λ (a : Asked). benched_for a file) is ∙ answered
 
-      pub the_file : length file ≤ 65536 → judged (asked words) file ≡ benched s
+      pub the_file : length file ≤ 65536 → judged (a_flow fl) file ≡ benched s
       the_file h =
           let said : judged (a_flow fl) file ≡ benched_for (a_flow fl) file = rw (le-leb (length file) 65536 h) in
-          ap (λ (a : Asked). judged a file) (sym is) ∙ said ∙ ap (λ (a : Asked). benched_for a file) is ∙ answered
+          said ∙ ap (λ (a : Asked). benched_for a file) is ∙ answered

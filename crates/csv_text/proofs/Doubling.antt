@@ -1,7 +1,7 @@
 -- Laws of a field as text. Assumes nothing.
 use Prim.Native.Nat.{ℕ, suc, ◌+◌, ◌≤◌, ◌<◌}
 use mathlib.Core.Path.{◌≡◌, refl, sym, ap, ◌∙◌}
-use mathlib.Core.Bool.{Bool, true, false, cond, ◌||◌}
+use mathlib.Core.Bool.{Bool, true, false, cond}
 use mathlib.Core.List.{List, [], ◌∷◌, ◌++◌}
 use native.Mathlib.Numerals.{add-one}
 use native.Mathlib.Omega.{arith}
@@ -9,8 +9,7 @@ use lib.Dec.{eqb}
 use lib.ListN.{length, get_or, drop, length-append, drop_of_length-le}
 use lib.Seq.{drop-cons}
 use borrow.Author.Tests.{eq-eqb, ne_eqb}
-use Rattle.record.specs.Records.{holds}
-use Rattle.rfc4180.specs.Rfc.{comma, quote}
+use Rattle.rfc4180.specs.Rfc.{quote}
 use Rattle.csv_text.specs.Export.{quoted, doubled, field_of}
 
 cons_go : (b : ℕ) (s : List ℕ) (t : Bool) → cond t (quote ∷ quote ∷ s) (b ∷ s) ≡ cond t (quote ∷ quote ∷ []) (b ∷ []) ++ s
@@ -76,27 +75,3 @@ size_next x i h = ap length (doubled_next x i h) ∙ length-append (doubled (get
 
 pub size_quoted : (x : List ℕ) → quoted x ≡ true → length (field_of x) ≡ length (doubled x) + 2
 size_quoted x e = omega (arith, ap length (field_quoted x e), length-append (doubled x) (quote ∷ []))
-
--- a comma or a quotation mark looked for: the byte at i, then those after it
-module _ (x : List ℕ) (i : ℕ) (found : Bool) where
-  mark_go : (a q f c d : Bool) → (a || (q || f) || (c || d)) ≡ (f || (a || c || (q || d)))
-  mark_go true q true c d = refl
-  mark_go true q false c d = refl
-  mark_go false true true c d = refl
-  mark_go false true false true d = refl
-  mark_go false true false false d = refl
-  mark_go false false f c d = refl
-
-  pub mark_next : i < length x → (eqb (get_or x i 0) comma || (eqb (get_or x i 0) quote || found) || quoted (drop (i + 1) x)) ≡ (found || quoted (drop i x))
-  unfolding holds
-  mark_next h =
-      let b = get_or x i 0 in
-      rw (add-one i, drop-cons x i 0 h) (mark_go (eqb b comma) (eqb b quote) found (holds comma (drop (suc i) x)) (holds quote (drop (suc i) x)))
-
-  or_none : (t : Bool) → t ≡ (t || false)
-  or_none true = refl
-  or_none false = refl
-
-  pub mark_end : length x ≤ i → found ≡ (found || quoted (drop i x))
-  unfolding holds
-  mark_end h = rw (drop_of_length-le x {i = i} h) (or_none found)

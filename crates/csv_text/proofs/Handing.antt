@@ -7,6 +7,7 @@ use native.Mathlib.Nat.{zero-add}
 use native.Mathlib.Omega.{arith}
 use lib.ListN.{length, take, drop}
 use lib.Seq.{length-take-le}
+use Rattle.std.specs.Prelude.{Result, Ok, Err}
 use Rattle.record.specs.Records.{records, joined, holds, some_holds}
 use Rattle.record.proofs.Cutting.{neither, records_joined, records_free}
 use Rattle.place.specs.Places.{whole}
@@ -15,14 +16,11 @@ use Rattle.flow.specs.Publication.{layout_for}
 use Rattle.flow.specs.Editions.{Asked}
 use Rattle.judge.specs.File.{judged_for, judged}
 use Rattle.judge.specs.File as judging
-use Rattle.judge.specs.declared.Judged.{Judged}
-use Rattle.judge.specs.declared.Judged.TheVariants as files
 use Rattle.judge.proofs.Passes.{passes}
 use Rattle.judge.proofs.Demand2.{one_reply, accepted_flow}
 use Rattle.sheet.specs.Sheets.{but_last}
-use Rattle.sheet.specs.Write.{as_judged, fitted, paper}
+use Rattle.sheet.specs.Write.{transferred, as_judged, fitted, paper}
 use Rattle.sheet.specs.Code.{put}
-use Rattle.sheet.specs.declared.Transfer.TheVariants.{Done, Refused}
 use Rattle.sheet.proofs.Handing.{fits_not, fits}
 use Rattle.csv_text.specs.Export.{text_of, rows_of, export_of, exported, Exported}
 use Rattle.csv_text.proofs.Lines.{text_short}
@@ -48,29 +46,29 @@ module _ (f : List ℕ) (b : ℕ) (within : b ≤ length f) (front : joined (but
   front_short h = omega (arith, text_short (take b f), length-take-le b f within)
 
 module _ (a : Asked) (f old : List ℕ) where
-  export_is : (v : Judged) → judging.paper v ≡ judged a f → paper (as_judged v (fitted (length old) (export_of f))) ≡ paper (exported a f (length old))
+  export_is : (v : Result ℕ Refusal) → judging.paper v ≡ judged a f → paper (as_judged v (fitted (length old) (export_of f))) ≡ paper (exported a f (length old))
   unfolding exported judged
-  export_is v e = ap (λ (w : Judged). paper (as_judged w (fitted (length old) (export_of f)))) (one_reply v (judged_for a f) e)
+  export_is v e = ap (λ (w : Result ℕ Refusal). paper (as_judged w (fitted (length old) (export_of f)))) (one_reply v (judged_for a f) e)
 
-  pub export_refused : (r : Refusal) → judging.paper (files.Refused r) ≡ judged a f → Exported a f (Refused r) old old
-  export_refused r e = record { says = export_is (files.Refused r) e; leaves = refl }
+  pub export_refused : (r : Refusal) → judging.paper (Err r) ≡ judged a f → Exported a f (Err r) old old
+  export_refused r e = record { says = export_is (Err r) e; leaves = refl }
 
   module _ (n b : ℕ) (accepts : judging.accepted n ≡ judged a f) (size : b ≡ length (export_of f)) where
-    pub export_no_room : {r : Refusal} → r ≡ whole 17 → length old < b → Exported a f (Refused r) old old
+    pub export_no_room : {r : Refusal} → r ≡ whole 17 → length old < b → Exported a f (Err r) old old
     export_no_room z h =
         record {
           says =
-              ap (λ (x : Refusal). paper (Refused x)) z ∙ ap paper (sym (fits_not (length old) (export_of f) n (omega arith)))
-              ∙ export_is (files.Accepted n) accepts;
+              ap (λ (x : Refusal). paper (Err x)) z ∙ ap paper (sym (fits_not (length old) (export_of f) n (omega arith)))
+              ∙ export_is (Ok n) accepts;
           leaves = refl;
         }
 
-    pub export_done : (new : List ℕ) → b ≤ length old → new ≡ put old 0 (export_of f) → Exported a f (Done n b) old new
+    pub export_done : (new : List ℕ) → b ≤ length old → new ≡ put old 0 (export_of f) → Exported a f (transferred n b) old new
     export_done new h e =
         record {
           says =
-              ap (λ (k : ℕ). paper (Done n k)) size ∙ ap paper (sym (fits (length old) (export_of f) n (omega arith)))
-              ∙ export_is (files.Accepted n) accepts;
+              ap (λ (k : ℕ). paper (transferred n k)) size ∙ ap paper (sym (fits (length old) (export_of f) n (omega arith)))
+              ∙ export_is (Ok n) accepts;
           leaves = e ∙ ap (λ (k : ℕ). export_of f ++ drop k old) (zero-add (length (export_of f)) ∙ sym size);
         }
 

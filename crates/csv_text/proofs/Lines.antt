@@ -2,7 +2,7 @@
 use Prim.Native.Nat.{ℕ, ◌+◌, ◌*◌, ◌-◌, ◌≤◌, ◌<◌}
 use mathlib.Core.Path.{◌≡◌, refl, ap, ap₂, ◌∙◌}
 use mathlib.Core.Bool.{Bool, true, false, cond}
-use mathlib.Core.List.{List, [], ◌∷◌, ◌++◌, map}
+use mathlib.Core.List.{List, [], ◌∷◌, ◌++◌, map, append-nil}
 use native.Mathlib.Decide.{dec_lt}
 use native.Mathlib.Omega.{arith}
 use lib.Dec.{eqb}
@@ -48,17 +48,21 @@ module _ (r : List ℕ) (at : ℕ) {a e n : ℕ} (x : IsField bar r at a e n) wh
   abbrev pub part : List ℕ
   part = take (e - a) (drop a r)
 
-  pub at_last : e ≡ length r → line_of (fields_from bar at r) ≡ field_of part
+  pub at_last : length r ≤ e → line_of (fields_from bar at r) ≡ field_of part ++ line_of (fields_from bar n r)
   unfolding parted
-  at_last h = ap line_of (x.splits ∙ ap (λ (l : List (List ℕ)). part ∷ l) (from_past bar n r (omega (arith, x.past))))
+  at_last h =
+      let none = from_past bar n r (omega (arith, x.past)) in
+      ap line_of (x.splits ∙ ap (λ (l : List (List ℕ)). part ∷ l) none) ∙ rw (none, append-nil (field_of part))
 
-  pub onward : (e ≡ length r → ⊥) → n ≤ length r
-  onward h = omega (arith, x.past, x.within)
-
-  pub at_more : (e ≡ length r → ⊥) → line_of (fields_from bar at r) ≡ field_of part ++ comma ∷ line_of (fields_from bar n r)
+  pub at_more : e < length r → line_of (fields_from bar at r) ≡ field_of part ++ comma ∷ line_of (fields_from bar n r)
   at_more h =
-      let some : 0 < length (fields_from bar n r) = rw (from_within bar n r (onward h)) (fields_some bar (drop n r)) in
+      let some : 0 < length (fields_from bar n r) = rw (from_within bar n r (omega (arith, x.past))) (fields_some bar (drop n r)) in
       ap line_of x.splits ∙ line_more part (fields_from bar n r) some
+
+-- behind the last field
+pub line_ended : (r : List ℕ) (at : ℕ) → length r < at → line_of (fields_from bar at r) ≡ []
+unfolding parted
+line_ended r at h = ap line_of (from_past bar at r h)
 
 -- at a record that a step found
 abbrev pub text_from : List ℕ → ℕ → List ℕ
@@ -127,17 +131,17 @@ text_short s = omega (arith, text_le (records s), records_load s)
 
 -- sizes
 module _ (r : List ℕ) (at : ℕ) {a e n : ℕ} (x : IsField bar r at a e n) where
-  pub size_last : e ≡ length r → length (line_of (fields_from bar at r)) ≡ length (field_of (take (e - a) (drop a r)))
-  size_last h = ap length (at_last r at x h)
+  pub size_last : length r ≤ e → length (line_of (fields_from bar at r)) ≡ length (field_of (take (e - a) (drop a r))) + length (line_of (fields_from bar n r))
+  size_last h = ap length (at_last r at x h) ∙ length-append (field_of (take (e - a) (drop a r))) (line_of (fields_from bar n r))
 
-  pub size_more : (e ≡ length r → ⊥)
+  pub size_more : e < length r
       → length (line_of (fields_from bar at r)) ≡ length (field_of (take (e - a) (drop a r))) + 1 + length (line_of (fields_from bar n r))
   size_more h =
       omega (arith, ap length (at_more r at x h), length-append (field_of (take (e - a) (drop a r))) (comma ∷ line_of (fields_from bar n r)))
 
   least_go : Dec (e < length r) → length (field_of (take (e - a) (drop a r))) ≤ length (line_of (fields_from bar at r))
-  least_go (yes h) = omega (arith, size_more (λ q. omega arith))
-  least_go (no h) = omega (arith, size_last (omega (arith, x.within)))
+  least_go (yes h) = omega (arith, size_more h)
+  least_go (no h) = omega (arith, size_last (omega arith))
 
   pub size_least : length (field_of (take (e - a) (drop a r))) ≤ length (line_of (fields_from bar at r))
   size_least = least_go (dec_lt e (length r))

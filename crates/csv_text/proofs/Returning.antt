@@ -20,8 +20,7 @@ use Rattle.flow.proofs.Proper.{ProperAsked}
 use Rattle.judge.specs.File.{judged, accepted}
 use Rattle.sheet.specs.Sheets.{tab, footer, but_last, bar_line, parted, sheet_of}
 use Rattle.sheet.specs.Write.{Reply, done}
-use Rattle.sheet.specs.declared.Transfer.{Transfer}
-use Rattle.sheet.specs.declared.Transfer.TheVariants.{Done}
+use Rattle.sheet.specs.Write.{Transfer, transferred}
 use Rattle.sheet.proofs.Characters.{text_record}
 use Rattle.sheet.proofs.AcceptedFiles.{parted_turned}
 use Rattle.sheet.proofs.Accepted.{accepted_passes, accepted_split, accepted_text}
@@ -211,10 +210,10 @@ module _ (a : Asked) (proper : ProperAsked a) (f : List ℕ) (n : ℕ) (accepts 
       rw export_lines at made
 
 -- both in the bytes that are lent: a file exported, and what was written imported
-module _ (a : Asked) (proper : ProperAsked a) (f : List ℕ) (n b : ℕ) (old new : List ℕ) (e : Exported a f (Done n b) old new) where
+module _ (a : Asked) (proper : ProperAsked a) (f : List ℕ) (n b : ℕ) (old new : List ℕ) (e : Exported a f (transferred n b) old new) where
   tells : (judged a f ≡ accepted n) × (b ≡ length (export_of f))
   unfolding exported
-  tells = done_accepts a f (export_of f) (length old) n b (sym (same_answer (Done n b) (exported a f (length old)) e.says))
+  tells = done_accepts a f (export_of f) (length old) n b (sym (same_answer (transferred n b) (exported a f (length old)) e.says))
 
   written : take b new ≡ export_of f
   written = ap (take b) e.leaves ∙ take_at (export_of f) (drop b old) b (sym tells.1)

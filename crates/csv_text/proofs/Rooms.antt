@@ -4,7 +4,6 @@ use mathlib.Core.Path.{◌≡◌, refl, sym, ap, ◌∙◌}
 use mathlib.Core.Bool.{Bool, true, false, cond, false≢true}
 use mathlib.Core.List.{List, [], ◌∷◌, ◌++◌}
 use native.Mathlib.Omega.{arith}
-use lib.Dec.{eqb}
 use lib.ListN.{length, length-append}
 use Rattle.record.specs.Records.{records, fields, joined, holds, bar}
 use Rattle.record.proofs.Cutting.{joined_append}
@@ -18,6 +17,8 @@ use Rattle.sheet.specs.Sheets.{tab, footer, but_last, parted}
 use Rattle.sheet.proofs.AcceptedFiles.{parted_turned, feed_joined, feed_long}
 use Rattle.sheet.proofs.Accepted.{accepted_split, accepted_some}
 use Rattle.rfc4180.specs.Rfc.{comma, return, feed}
+use Rattle.rfc4180.specs.declared.State.{State}
+use Rattle.rfc4180.specs.declared.State.TheVariants.{AtLine}
 use Rattle.rfc4180.specs.Walk.{at_line, next_of, given_of, sheet_from}
 use Rattle.rfc4180.proofs.Steps.{given_le}
 use Rattle.rfc4180.proofs.Ways.{text_sheet}
@@ -68,15 +69,15 @@ end_go : (t : Bool) → length (cond t [] (feed ∷ [])) ≤ 1
 end_go true = omega arith
 end_go false = omega arith
 
-sheet_le : (st : ℕ) (s : List ℕ) → length (sheet_from st s) ≤ length s + 1
+sheet_le : (st : State) (s : List ℕ) → length (sheet_from st s) ≤ length s + 1
 unfolding sheet_from
-sheet_le st [] = omega (arith, end_go (eqb st at_line))
+sheet_le st [] = omega (arith, end_go (at_line st))
 sheet_le st (b ∷ s) =
     omega (arith, given_le st b, sheet_le (next_of st b) s, length-append (given_of st b) (sheet_from (next_of st b) s))
 
 module _ {text : List ℕ} {rows : List (List (List ℕ))} {sheet : List ℕ} (r : Readable text rows sheet) where
   pub import_fits : length sheet ≤ length text + 1
-  import_fits = omega (arith, sheet_le at_line text, ap length (text_sheet r.reads), ap length r.makes)
+  import_fits = omega (arith, sheet_le AtLine text, ap length (text_sheet r.reads), ap length r.makes)
 
   -- so only a text of just 1,048,000 bytes makes a sheet over the limit, by one byte
   pub import_over : 1048000 < length sheet → (length text ≡ 1048000) × (length sheet ≡ 1048001)

@@ -7,17 +7,22 @@ use mathlib.Core.Logic.{◌↔◌}
 use native.Mathlib.Nat.{zero-add}
 use native.Mathlib.Omega.{arith}
 use lib.ListN.{length, drop}
+use Rattle.std.specs.Prelude.{Result, Ok, Err}
+use Rattle.std.specs.Result.{MatchResult, IsErrAnd}
+use Rattle.std.proofs.lemmas.Result.{err_from_is_err_and}
 use Rattle.record.specs.Records.{records, joined, holds, some_holds, bar}
 use Rattle.record.proofs.Cutting.{neither}
 use Rattle.place.specs.Places.{refusal_at, whole}
 use Rattle.place.specs.declared.Refusal.{Refusal}
 use Rattle.sheet.specs.Sheets.{bar_line}
-use Rattle.sheet.specs.Write.{Reply, done, refused, paper}
+use Rattle.sheet.specs.Write.{Reply, transferred, done, refused, paper}
 use Rattle.sheet.specs.Code.{put}
-use Rattle.sheet.specs.declared.Transfer.TheVariants.{Done, Refused}
 use Rattle.sheet.proofs.Holding.{records_hold}
 use Rattle.rfc4180.specs.Rfc.{comma, Text, lines_of, Starts}
-use Rattle.rfc4180.specs.Walk.{at_line, stop_at, sheet_from, lines_from}
+use Rattle.rfc4180.specs.declared.State.TheVariants.{AtLine}
+use Rattle.rfc4180.specs.Walk.{stop_at, sheet_from, lines_from, Scanned}
+use Rattle.rfc4180.specs.declared.Through.{Through}
+use Rattle.rfc4180.specs.declared.Halt.{Halt}
 use Rattle.rfc4180.proofs.Ways.{text_sheet, text_lines}
 use Rattle.rfc4180.proofs.Reading.{walk_reads, walk_stops, one_stop, not_both}
 use Rattle.rfc4180.proofs.Rows.{text_bars, one_reading}
@@ -43,14 +48,24 @@ no_bar_lem i (line ∷ lines) h =
     rw n.0 (no_bar_lem (suc i) lines n.1)
 
 module _ (text old : List ℕ) (short : length text ≤ 1048000) where
-  pub import_stops : {r : Refusal} (line : ℕ) → r ≡ refusal_at comma text 20 line 0 → line ≡ stop_at at_line 0 text → (line ≡ 0 → ⊥)
-      → Imported text old (paper (Refused r)) old
+  pub import_stops : {r : Refusal} (line : ℕ) → r ≡ refusal_at comma text 20 line 0 → line ≡ stop_at AtLine 0 text → (line ≡ 0 → ⊥)
+      → Imported text old (paper (Err r)) old
   import_stops zero z e h = absurd (h refl)
   import_stops (suc m) z e h =
       let stop = (walk_stops text m).0 (sym e) in
       rw z (imports.Imported.stops short stop (stops_start comma stop))
 
-  module _ (through : stop_at at_line 0 text ≡ 0) (lines bytes : ℕ) (l : lines ≡ lines_from at_line text) (b : bytes ≡ length (sheet_from at_line text)) where
+  -- the same where the line's refusal is made of what stopped the walk
+  pub import_halts : {Q : Halt → Refusal → Type 0} → ((h : Halt) (r : Refusal) → Q h r → r ≡ refusal_at comma text 20 h.line 0)
+      → (seen : Result Through Halt) (mapped : Result Through Refusal) (r : Refusal) → Scanned text seen
+      → MatchResult seen (λ t. mapped ≡ Ok t) (λ h. IsErrAnd mapped (Q h)) → mapped ≡ Err r → Imported text old (paper (Err r)) old
+  import_halts says (Ok t) mapped r s m e = absurd cc
+  import_halts says (Err h) mapped r s m e =
+      let (y, is, q) = err_from_is_err_and mapped m in
+      let same : y ≡ r = cc in
+      import_stops h.line (sym same ∙ says h y q) s.0 s.1
+
+  module _ (through : stop_at AtLine 0 text ≡ 0) (lines bytes : ℕ) (l : lines ≡ lines_from AtLine text) (b : bytes ≡ length (sheet_from AtLine text)) where
     rows : List (List (List ℕ))
     rows = ((walk_reads text).0 through).0
 
@@ -58,21 +73,21 @@ module _ (text old : List ℕ) (short : length text ≤ 1048000) where
     unfolding rows
     is = ((walk_reads text).0 through).1
 
-    readable : Readable text rows (sheet_from at_line text)
+    readable : Readable text rows (sheet_from AtLine text)
     readable = record { short = short; reads = is; makes = text_sheet is }
 
-    pub import_long : {r : Refusal} → r ≡ whole 2 → 1048000 < bytes → Imported text old (paper (Refused r)) old
+    pub import_long : {r : Refusal} → r ≡ whole 2 → 1048000 < bytes → Imported text old (paper (Err r)) old
     import_long z h = rw z (imports.Imported.long readable (omega arith))
 
     module _ (within : bytes ≤ 1048000) where
-      barred_go : (n : ℕ) → bar_line 1 (records text) ≡ n → (n ≡ 0 → ⊥) → Imported text old (paper (Refused (refusal_at comma text 16 n 0))) old
+      barred_go : (n : ℕ) → bar_line 1 (records text) ≡ n → (n ≡ 0 → ⊥) → Imported text old (paper (Err (refusal_at comma text 16 n 0))) old
       barred_go zero e h = absurd (h refl)
       barred_go (suc n) e h =
           let at = sym (text_bars 1 is) ∙ e in
           imports.Imported.barred readable (omega arith) at (bars_start comma is n at)
 
       pub import_barred : {r : Refusal} (line : ℕ) → r ≡ refusal_at comma text 16 line 0 → line ≡ bar_line 1 (records text) → holds bar text ≡ true
-          → Imported text old (paper (Refused r)) old
+          → Imported text old (paper (Err r)) old
       import_barred line z e h =
           rw z (barred_go line (sym e) (λ q. some_bar 0 (records text) (records_hold bar text (λ x. omega arith) ∙ h) (sym e ∙ q)))
 
@@ -80,12 +95,12 @@ module _ (text old : List ℕ) (short : length text ≤ 1048000) where
         none : bar_line 1 (lines_of rows) ≡ 0
         none = sym (text_bars 1 is) ∙ no_bar_lem 1 (records text) (records_hold bar text (λ x. omega arith) ∙ free)
 
-        pub import_no_room : {r : Refusal} → r ≡ whole 17 → length old < bytes → Imported text old (paper (Refused r)) old
+        pub import_no_room : {r : Refusal} → r ≡ whole 17 → length old < bytes → Imported text old (paper (Err r)) old
         import_no_room z h = rw z (imports.Imported.no_room readable (omega arith) none (omega arith))
 
-        pub import_made : (new : List ℕ) → bytes ≤ length old → new ≡ put old 0 (sheet_from at_line text) → Imported text old (paper (Done lines bytes)) new
+        pub import_made : (new : List ℕ) → bytes ≤ length old → new ≡ put old 0 (sheet_from AtLine text) → Imported text old (paper (transferred lines bytes)) new
         import_made new h e =
-            let sheet = sheet_from at_line text in
+            let sheet = sheet_from AtLine text in
             let left : new ≡ sheet ++ drop (length sheet) old = e ∙ ap (λ (n : ℕ). sheet ++ drop n old) (zero-add (length sheet)) in
             let says : done lines bytes ≡ done (length rows) (length sheet) = ap₂ done (l ∙ text_lines is) b in
             rw (says, left) (imports.Imported.made readable (omega arith) none (omega arith))

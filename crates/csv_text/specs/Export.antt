@@ -5,8 +5,7 @@ use Rattle.flow.specs.Editions.{Asked}
 use Rattle.judge.specs.File.{judged_for}
 use Rattle.sheet.specs.Sheets.{but_last, parted}
 use Rattle.rfc4180.specs.Rfc.{comma, quote, return, feed}
-use Rattle.sheet.specs.Write.{as_judged, fitted, Handed}
-use Rattle.sheet.specs.declared.Transfer.{Transfer}
+use Rattle.sheet.specs.Write.{Transfer, as_judged, fitted, Handed}
 
 -- a field is quoted exactly when it holds a comma or a quotation mark
 abbrev pub quoted : List ℕ → Bool

@@ -9,25 +9,20 @@ ghost use Rattle.sheet.specs.Write.{paper};
 ghost use Rattle.csv_text.specs.Export.{quoted as quoted_of, doubled, field_of, line_of, text_of, rows_of, Exported};
 ghost use Rattle.csv_text.specs.Import.{Imported};
 
-use judge::Judged;
-use record::{BAR, FEED};
-use rfc4180::{COMMA, Looked, QUOTE, RETURN};
-use sheet::Transfer;
+use place::Refusal;
+use record::{BAR, FEED, FieldSpans, RecordSpans};
+use rfc4180::{COMMA, QUOTE, RETURN};
+use sheet::Transferred;
 
-// A field, or one of a record, holds a comma or a quotation mark. All bytes are looked at, since most have neither.
+// A field, or one of a record, holds a comma or a quotation mark.
 fn quoted(x: &[u8]) -> bool
     ensures { result ≡ quoted_of x.now }
 {
-    let mut found = false;
-    let mut i = 0;
-    while i < x.len() {
-        found = sheet::seen(x[i], COMMA, sheet::seen(x[i], QUOTE, found));
-        i += 1;
-    }
-    found
+    sheet::has_byte(x, COMMA) || sheet::has_byte(x, QUOTE)
 }
 
 // How many bytes one byte takes in a quoted field.
+#[tactic(auto, unfolding(crate::specs::Export::doubled))]
 fn times(b: u8) -> usize
     ensures { result ≡ length (doubled (b ∷ [])) }
 {
@@ -40,10 +35,8 @@ fn doubled_size(x: &[u8]) -> usize
     ensures { result ≡ length (doubled x.now) }
 {
     let mut n = 0;
-    let mut i = 0;
-    while i < x.len() {
-        n += times(x[i]);
-        i += 1;
+    for b in x {
+        n += times(*b);
     }
     n
 }
@@ -64,23 +57,14 @@ fn fields_size(r: &[u8]) -> usize
     requires { length (line_of (fields bar r.now)) ≤ 9000000 }
     ensures { result ≡ length (line_of (fields bar r.now)) }
 {
-    let mut c = record::FieldCursor { at: 0 };
     let mut n = 0;
-    loop {
-        match c.step(BAR, r) {
-            record::FieldStep::Done => {
-                return n;
-            }
-            record::FieldStep::Field { start, end, next } => {
-                n += field_size(&r[start..end]);
-                if end == r.len() {
-                    return n;
-                }
-                n += 1;
-                c = next;
-            }
+    for field in FieldSpans::of(BAR, r) {
+        n += field_size(field.of(r));
+        if field.end < r.len() {
+            n += 1;
         }
     }
+    n
 }
 
 // How many bytes the line of a record takes, without its end. One without comma and quotation mark keeps its length.
@@ -99,19 +83,11 @@ fn text_size(s: &[u8]) -> usize
     requires { length (text_of (rows_of (records s.now))) ≤ 9000000 }
     ensures { result ≡ length (text_of (rows_of (records s.now))) }
 {
-    let mut c = record::Cursor { at: 0 };
     let mut n = 0;
-    loop {
-        match c.step(s) {
-            record::Step::Done => {
-                return n;
-            }
-            record::Step::Record { start, end, next } => {
-                n += line_size(&s[start..end]) + 2;
-                c = next;
-            }
-        }
+    for record in RecordSpans::of(s) {
+        n += line_size(record.of(s)) + 2;
     }
+    n
 }
 
 // One byte of a quoted field put from `at` on; gives the place behind it.
@@ -133,10 +109,8 @@ fn put_doubled(out: &mut [u8], at: usize, x: &[u8]) -> usize
     ensures { (out.new ≡ put out.old at (doubled x.now)) × (result ≡ at + length (doubled x.now)) }
 {
     let mut e = at;
-    let mut i = 0;
-    while i < x.len() {
-        e = put_byte(out, e, x[i]);
-        i += 1;
+    for b in x {
+        e = put_byte(out, e, *b);
     }
     e
 }
@@ -161,24 +135,15 @@ fn put_fields(out: &mut [u8], at: usize, r: &[u8]) -> usize
     requires { at + length (line_of (fields bar r.now)) ≤ length out.old }
     ensures { (out.new ≡ put out.old at (line_of (fields bar r.now))) × (result ≡ at + length (line_of (fields bar r.now))) }
 {
-    let mut c = record::FieldCursor { at: 0 };
     let mut e = at;
-    loop {
-        match c.step(BAR, r) {
-            record::FieldStep::Done => {
-                return e;
-            }
-            record::FieldStep::Field { start, end, next } => {
-                e = put_field(out, e, &r[start..end]);
-                if end == r.len() {
-                    return e;
-                }
-                out[e] = COMMA;
-                e += 1;
-                c = next;
-            }
+    for field in FieldSpans::of(BAR, r) {
+        e = put_field(out, e, field.of(r));
+        if field.end < r.len() {
+            out[e] = COMMA;
+            e += 1;
         }
     }
+    e
 }
 
 // The line of a record put from `at` on, without its end. One without comma and quotation mark has no field to quote.
@@ -198,72 +163,49 @@ fn put_text(out: &mut [u8], s: &[u8])
     requires { length (text_of (rows_of (records s.now))) ≤ length out.old }
     ensures { out.new ≡ put out.old 0 (text_of (rows_of (records s.now))) }
 {
-    let mut c = record::Cursor { at: 0 };
     let mut e = 0;
-    loop {
-        match c.step(s) {
-            record::Step::Done => {
-                return;
-            }
-            record::Step::Record { start, end, next } => {
-                e = put_line(out, e, &s[start..end]);
-                out[e] = RETURN;
-                out[e + 1] = FEED;
-                e += 2;
-                c = next;
-            }
-        }
+    for record in RecordSpans::of(s) {
+        e = put_line(out, e, record.of(s));
+        out[e] = RETURN;
+        out[e + 1] = FEED;
+        e += 2;
     }
 }
 
 // Exports a file for the flow that the words ask for as text in the lent bytes. Any words, any bytes, any room.
-pub fn export(flow: &[u8], file: &[u8], out: &mut [u8]) -> Transfer
+pub fn export(flow: &[u8], file: &[u8], out: &mut [u8]) -> Result<Transferred, Refusal>
     ensures { Exported (asked flow.now) file.now result out.old out.new }
 {
-    match judge::judge(flow, file) {
-        Judged::Refused(refusal) => Transfer::Refused(refusal),
-        Judged::Accepted(records) => {
-            let end = sheet::last_start(file);
-            let bytes = text_size(&file[..end]);
-            if out.len() < bytes {
-                return Transfer::Refused(place::whole(17));
-            }
-            put_text(out, &file[..end]);
-            Transfer::Done { records, bytes }
-        }
+    let records = judge::judge(flow, file)?;
+    let end = sheet::last_start(file);
+    let bytes = text_size(&file[..end]);
+    if out.len() < bytes {
+        return Err(place::whole(17));
     }
+    put_text(out, &file[..end]);
+    Ok(Transferred { records, bytes })
 }
 
 // Imports a text as a sheet in the lent bytes: any bytes, any room.
-pub fn import(text: &[u8], out: &mut [u8]) -> Transfer
+pub fn import(text: &[u8], out: &mut [u8]) -> Result<Transferred, Refusal>
     ensures { Imported text.now out.old (paper result) out.new }
 {
     if 1048000 < text.len() {
-        return Transfer::Refused(place::whole(2));
+        return Err(place::whole(2));
     }
-    match rfc4180::scan(text) {
-        Looked::Stopped { line } => Transfer::Refused(place::at(COMMA, text, 20, line, 0)),
-        Looked::Through { lines, bytes } => {
-            if 1048000 < bytes {
-                return Transfer::Refused(place::whole(2));
-            }
-            if sheet::has_byte(text, BAR) {
-                return Transfer::Refused(place::at(
-                    COMMA,
-                    text,
-                    16,
-                    sheet::first_bar_line(text),
-                    0,
-                ));
-            }
-            if out.len() < bytes {
-                return Transfer::Refused(place::whole(17));
-            }
-            rfc4180::put_sheet(out, text);
-            Transfer::Done {
-                records: lines,
-                bytes,
-            }
-        }
+    let seen = rfc4180::scan(text).map_err(|halt| place::at(COMMA, text, 20, halt.line, 0))?;
+    if 1048000 < seen.bytes {
+        return Err(place::whole(2));
     }
+    if sheet::has_byte(text, BAR) {
+        return Err(place::at(COMMA, text, 16, sheet::first_bar_line(text), 0));
+    }
+    if out.len() < seen.bytes {
+        return Err(place::whole(17));
+    }
+    rfc4180::put_sheet(out, text);
+    Ok(Transferred {
+        records: seen.lines,
+        bytes: seen.bytes,
+    })
 }

@@ -1,5 +1,5 @@
--- A tally grows by one with each spoiled file, and a good file has so few bytes that it has room. Assumes nothing.
-use Prim.Native.Nat.{ℕ, ◌+◌, ◌≤◌}
+-- What the judge's answer says of a file, and that a good file has so few bytes that a tally has room for what is counted. Assumes nothing.
+use Prim.Native.Nat.{ℕ, ◌≤◌}
 use mathlib.Core.Path.{◌≡◌, refl}
 use mathlib.Core.Bool.{Bool, true, false}
 use mathlib.Core.List.{List}
@@ -8,19 +8,22 @@ use borrow.Author.Tests.{leb-true}
 use lib.Dec.{leb}
 use lib.ListN.{length}
 use Rattle.text.specs.Rules.{must}
+use Rattle.place.specs.declared.Refusal.{Refusal}
+use Rattle.drill.specs.Drill.{accepts}
 use Rattle.flow.specs.Editions.{Asked, a_flow, no_flow}
-use Rattle.judge.specs.File.{judged_by, with_place, judged_for, paper, judged, accepted}
-use Rattle.judge.specs.declared.Verdict.{Verdict}
-use Rattle.judge.specs.declared.Verdict.TheVariants.{Refused}
-use Rattle.drill.specs.Drill.{Counted}
+use Rattle.judge.specs.File.{judged_by, with_place, judged_for, paper, judged, accepted, unplaced}
+use Rattle.judge.specs.declared.Unplaced.{Unplaced}
+use Rattle.std.specs.Prelude.{Result, Ok, Err}
+use Rattle.std.specs.Result.{is_ok}
 
-pub one_more_lem : {a b c d : ℕ} (good : Bool) → Counted a b good c d → c + d ≡ a + b + 1
-one_more_lem true k = omega (arith, k.refusals, k.passes)
-one_more_lem false k = omega (arith, k.refusals, k.passes)
+-- an answer that accepts
+pub accepts_ok : (j : Result ℕ Refusal) → accepts (paper j) ≡ is_ok j
+accepts_ok (Ok n) = refl
+accepts_ok (Err r) = refl
 
 -- an answer that passed the test for 2
-limit_passed : (sep : ℕ) (f : List ℕ) (u : Bool) (later : Verdict) (n : ℕ) →
-    paper (with_place sep f (must u (Refused 2 0 0) later)) ≡ accepted n → u ≡ true
+limit_passed : (sep : ℕ) (f : List ℕ) (u : Bool) (later : Result ℕ Unplaced) (n : ℕ) →
+    paper (with_place sep f (must u (Err (unplaced 2 0 0)) later)) ≡ accepted n → u ≡ true
 limit_passed sep f true later n e = refl
 limit_passed sep f false later n e = cc
 

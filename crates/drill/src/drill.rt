@@ -1,10 +1,9 @@
 // A good file spoiled: one byte at a time is made another, the file is judged, and the byte is put back.
-ghost use Rattle.std.specs.Prelude.{◌≡◌, ◌+◌, ◌*◌, ◌^◌, ◌≤◌, ◌<◌, length};
+ghost use Rattle.std.specs.Prelude.{◌≡◌, ◌+◌, ◌*◌, ◌^◌, ◌≤◌, ◌<◌, length, IfOk};
 ghost use Rattle.flow.specs.Editions.{asked};
 ghost use Rattle.drill.specs.Drill.{passes, other as other_of, spoilt, Counted};
 
-use judge::Judged;
-use stream::{tell, tell_number};
+use stream::{Unwritten, tell, tell_number};
 
 // Every how many places the file is spoiled, and by every how many of the other bytes.
 #[derive(Clone, Copy)]
@@ -13,12 +12,11 @@ pub struct Plan {
     pub bytes: usize,
 }
 
-// How many spoiled files were refused, and how many passed; and whether each that passed was printed.
+// How many spoiled files were refused, and how many passed.
 #[derive(Clone, Copy)]
 pub struct Tally {
     pub refused: u64,
     pub passed: u64,
-    pub written: bool,
 }
 
 // Up to 2,048 bytes each place by all 255 other bytes; above that between 1,024 and 2,048 places,
@@ -41,10 +39,7 @@ pub fn plan_for(size: usize) -> Plan
 fn accepts(flow: &[u8], file: &[u8]) -> bool
     ensures { result ≡ passes (asked flow.now) file.now }
 {
-    match judge::judge(flow, file) {
-        Judged::Accepted(_) => true,
-        Judged::Refused(_) => false,
-    }
+    judge::judge(flow, file).is_ok()
 }
 
 // The byte that is d above b, past the highest counted on from 0.
@@ -54,13 +49,8 @@ fn other(b: u8, d: usize) -> u8
     ((b as usize + d % 256) % 256) as u8
 }
 
-// Says at which place and by which byte a spoiled file passed. Where one could not be printed, no other is tried.
-fn print_passed(rt: &(impl Print + Eprint), t: Tally, at: usize, b: u8) -> bool {
-    t.written && printing::print_numbers(rt, b"PASSED", &[at, b as usize, 0])
-}
-
-// Counts a spoiled file, and says where it passed, if it did.
-fn count(rt: &(impl Print + Eprint), t: Tally, passed: bool, at: usize, b: u8) -> Tally
+// Counts a spoiled file.
+fn count(t: Tally, passed: bool) -> Tally
     requires { t.refused + t.passed < 2 ^ 63 }
     ensures { Counted t.refused t.passed passed result.refused result.passed }
 {
@@ -68,17 +58,16 @@ fn count(rt: &(impl Print + Eprint), t: Tally, passed: bool, at: usize, b: u8) -
         return Tally {
             refused: t.refused,
             passed: t.passed + 1,
-            written: print_passed(rt, t, at, b),
         };
     }
     Tally {
         refused: t.refused + 1,
         passed: t.passed,
-        written: t.written,
     }
 }
 
-// Spoils one place by one other byte, has the file judged, and puts the byte back.
+// Spoils one place by one other byte, has the file judged, puts the byte back and counts the file; of one that passed it says at
+// which place and by which byte.
 fn spoil(
     rt: &(impl Print + Eprint),
     flow: &[u8],
@@ -86,18 +75,21 @@ fn spoil(
     at: usize,
     d: usize,
     t: Tally,
-) -> Tally
+) -> Result<Tally, Unwritten>
     requires at_in_bounds { at < length file.old }
     requires passed_bound { t.refused + t.passed < 2 ^ 63 }
     ensures file_unchanged { file.new ≡ file.old }
-    ensures counted { Counted t.refused t.passed (passes (asked flow.now) (spoilt file.old at d)) result.refused result.passed }
+    ensures counted { IfOk result (λ tally. Counted t.refused t.passed (passes (asked flow.now) (spoilt file.old at d)) tally.refused tally.passed) }
 {
     let kept = file[at];
     let b = other(kept, d);
     file[at] = b;
     let passed = accepts(flow, file);
     file[at] = kept;
-    count(rt, t, passed, at, b)
+    if passed {
+        printing::print_numbers(rt, b"PASSED", &[at, b as usize, 0])?;
+    }
+    Ok(count(t, passed))
 }
 
 // Spoils one place by the other bytes that the plan names.
@@ -108,23 +100,18 @@ fn spoil_place(
     at: usize,
     p: Plan,
     so_far: Tally,
-) -> Tally
+) -> Result<Tally, Unwritten>
     requires at_in_bounds { at < length file.old }
     requires bytes_nonzero { 0 < p.bytes }
     requires so_far_bound { so_far.refused + so_far.passed < 2 ^ 62 }
     ensures file_unchanged { file.new ≡ file.old }
-    ensures passed_bound { result.refused + result.passed ≤ so_far.refused + so_far.passed + 255 }
+    ensures passed_bound { IfOk result (λ tally. tally.refused + tally.passed ≤ so_far.refused + so_far.passed + 255) }
 {
     let mut t = so_far;
-    let mut d = 1;
-    while d < 256 {
-        t = spoil(rt, flow, file, at, d, t);
-        if 256 - d < p.bytes {
-            return t;
-        }
-        d += p.bytes;
+    for d in (1..256).step_by(p.bytes) {
+        t = spoil(rt, flow, file, at, d, t)?;
     }
-    t
+    Ok(t)
 }
 
 // Says on standard error how far the drill is, at every 64th place.
@@ -138,29 +125,26 @@ fn progress(rt: &impl Eprint, turn: usize, at: usize, size: usize) {
     }
 }
 
-// Spoils a good file at the places that the plan names; it stops where a file that passed can't be printed.
-pub fn spoil_all(rt: &(impl Print + Eprint), flow: &[u8], file: &mut [u8], p: Plan) -> Tally
+// Spoils a good file at the places that the plan names; it fails where a file that passed can't be printed.
+pub fn spoil_all(
+    rt: &(impl Print + Eprint),
+    flow: &[u8],
+    file: &mut [u8],
+    p: Plan,
+) -> Result<Tally, Unwritten>
     requires places_nonzero { (0 < p.places) × (0 < p.bytes) }
     requires file_len_bound { length file.old ≤ 1048576 }
     ensures file_unchanged { file.new ≡ file.old }
-    ensures passed_bound { result.refused + result.passed ≤ 255 * length file.old }
+    ensures passed_bound { IfOk result (λ tally. tally.refused + tally.passed ≤ 255 * length file.old) }
 {
     let mut t = Tally {
         refused: 0,
         passed: 0,
-        written: true,
     };
-    let mut at = 0;
-    while at < file.len() {
-        progress(rt, at / p.places, at, file.len());
-        t = spoil_place(rt, flow, file, at, p, t);
-        if !t.written {
-            return t;
-        }
-        if file.len() - at <= p.places {
-            return t;
-        }
-        at += p.places;
+    let size = file.len();
+    for at in (0..size).step_by(p.places) {
+        progress(rt, at / p.places, at, size);
+        t = spoil_place(rt, flow, file, at, p, t)?;
     }
-    t
+    Ok(t)
 }

@@ -1,18 +1,15 @@
 -- What one record comes to, by what the code keeps of those before it: a state, and slots with their last keys. Assumes nothing.
-use Rattle.std.specs.Prelude.{ℕ, ◌+◌, ◌*◌, ◌≡◌, cond, List, [], ltb, leb, length, get_or, take, drop}
+use Rattle.std.specs.Prelude.{ℕ, ◌+◌, ◌*◌, ◌≡◌, cond, List, [], ltb, leb, length, get_or, take, drop, Result, Ok, Err}
 use Rattle.text.specs.Rules.{must}
 use Rattle.record.specs.Records.{field, barred, IsPart}
 use Rattle.checksum.specs.Checksum.{add_record}
 use Rattle.layout.specs.Layout.{Rule, Layout, row}
 use Rattle.fault.specs.Record.{kind_of, key_in, shape_fault, key_fault, footer_fault, kind_fault}
-use Rattle.fault.specs.Fields.{also}
-use Rattle.fault.specs.declared.Check.{Check}
-use Rattle.fault.specs.declared.Check.TheVariants.{Fine, Fault}
-use Rattle.fault.specs.declared.Shape.{Shape}
-use Rattle.fault.specs.declared.Shape.TheVariants.{Wrong, Right}
+use Rattle.fault.specs.Fields.{Check, fine, fault, also}
+use Rattle.fault.specs.declared.Fault.{Fault}
+use Rattle.record.specs.declared.Span.{Span}
 use Rattle.fault.specs.declared.State.{State}
-use Rattle.fault.specs.declared.Outcome.{Outcome}
-use Rattle.fault.specs.declared.Outcome.TheVariants.{Pass, Stop}
+use Rattle.fault.specs.declared.Passed.{Passed as Next}
 
 -- three numbers for each kind: the record that had it last, and where its key starts in the file and how long it is.
 -- A key counts where its record is later than the last one of the kind that heads its set
@@ -23,9 +20,9 @@ key_in_slots l file slots k =
     []
 
 -- what the fields of a record come to by some rules: the first fault, or the place of field key
-abbrev pub ShapeRight : ℕ → ℕ → List Rule → List ℕ → Shape → Type 0
-ShapeRight sep key rules r (Wrong number f) = shape_fault sep rules r ≡ Fault number f
-ShapeRight sep key rules r (Right p) = (shape_fault sep rules r ≡ Fine) × IsPart r p.from p.to (field sep key r)
+abbrev pub ShapeRight : ℕ → ℕ → List Rule → List ℕ → Result Span Fault → Type 0
+ShapeRight sep key rules r (Err wrong) = shape_fault sep rules r ≡ Err wrong
+ShapeRight sep key rules r (Ok p) = (shape_fault sep rules r ≡ fine) × IsPart r p.start p.end (field sep key r)
 
 -- the state with one record more
 abbrev pub next_state : ℕ → Layout → State → List ℕ → State
@@ -36,26 +33,26 @@ unfoldable pub close_fault : ℕ → Layout → State → List ℕ → ℕ → L
 close_fault sep l st old k r = also (key_fault l k old (key_in sep l k r)) (footer_fault sep l st.count st.sum k r)
 
 -- what a record of kind k comes to that no rule up to 10 refuses
-abbrev pub ClosedRight : ℕ → Layout → State → List ℕ → ℕ → List ℕ → Outcome → Type 0
-ClosedRight sep l st old k r (Stop number f) = close_fault sep l st old k r ≡ Fault number f
-ClosedRight sep l st old k r (Pass next from to) =
-    (close_fault sep l st old k r ≡ Fine)
-    × (next ≡ record { count = st.count + 1; last = k; sum = add_record st.sum (barred sep r) })
-    × IsPart r from to (key_in sep l k r)
+abbrev pub ClosedRight : ℕ → Layout → State → List ℕ → ℕ → List ℕ → Result Next Fault → Type 0
+ClosedRight sep l st old k r (Err wrong) = close_fault sep l st old k r ≡ Err wrong
+ClosedRight sep l st old k r (Ok p) =
+    (close_fault sep l st old k r ≡ fine)
+    × (p.next ≡ record { count = st.count + 1; last = k; sum = add_record st.sum (barred sep r) })
+    × IsPart r p.key.start p.key.end (key_in sep l k r)
 
 -- the first fault of a record, by the state and the keys before it
 unfoldable pub record_fault : ℕ → Layout → State → (ℕ → List ℕ) → List ℕ → Check
 record_fault sep l st old r =
-    must (leb (length r) 512) (Fault 3 0)
+    must (leb (length r) 512) (fault 3 0)
     (kind_fault sep l st.count st.last st.sum (old (kind_of sep l r)) (kind_of sep l r) r)
 
 -- a record passed: nothing is wrong with it, the next state, and the place of its key in it
 pub record Passed (sep : ℕ) (l : Layout) (st : State) (old : ℕ → List ℕ) (r : List ℕ) (next : State) (from to : ℕ) : Type 0 where
-  pub fine : record_fault sep l st old r ≡ Fine
+  pub fine : record_fault sep l st old r ≡ fine
   pub state : next ≡ next_state sep l st r
   pub key : IsPart r from to (key_in sep l (kind_of sep l r) r)
 
 -- what one record comes to
-abbrev pub OutcomeRight : ℕ → Layout → State → (ℕ → List ℕ) → List ℕ → Outcome → Type 0
-OutcomeRight sep l st old r (Stop number f) = record_fault sep l st old r ≡ Fault number f
-OutcomeRight sep l st old r (Pass next from to) = Passed sep l st old r next from to
+abbrev pub OutcomeRight : ℕ → Layout → State → (ℕ → List ℕ) → List ℕ → Result Next Fault → Type 0
+OutcomeRight sep l st old r (Err wrong) = record_fault sep l st old r ≡ Err wrong
+OutcomeRight sep l st old r (Ok p) = Passed sep l st old r p.next p.key.start p.key.end

@@ -12,7 +12,8 @@ use lib.Seq.{split_at}
 use borrow.Author.Tests.{eqb-true, eqb-false, ltb-true, not-true}
 use Rattle.text.specs.Characters.{all, is_digit, from_to}
 use Rattle.text.specs.Order.{number_order, text_order, else}
-use Rattle.text.specs.declared.Order.{Order}
+use Rattle.std.specs.Prelude.{Ok}
+use Rattle.std.specs.declared.cmp.Ordering.{Ordering}
 use Rattle.text.proofs.Orders.{number_below, number_above}
 use Rattle.number.specs.Numbers.{number, number_from, minus, unsigned, plain, is_zero, whole, places, pointed, int_value, dec_form, dec_value}
 use Rattle.field.specs.Types.{form, range, value_of, bol_form, period_range}
@@ -21,7 +22,7 @@ use Rattle.number.specs.Order.{digits_order, whole_order, value_order}
 use Rattle.field.specs.Keys.{key_order}
 use Rattle.field.specs.declared.FieldType.{FieldType}
 use Rattle.field.specs.declared.FieldType.TheVariants as types
-use Rattle.field.specs.declared.FieldAnswer.TheVariants.{Number}
+use Rattle.field.specs.declared.Content.TheVariants.{Number}
 use Rattle.number.proofs.Digits.{and_left, and_right, all_append, digit_low, grows, plain_digits, number_append}
 use Rattle.number.proofs.ByValue.{Stand, below, equal, above, stand, number_same, else_else, as_long, as_many, fewer, bare_is, signed_by_value, by_value, dates_by_value}
 use Rattle.number.proofs.Spelling.{whole_same, value_same}
@@ -33,7 +34,7 @@ text_append [] [] x y h = refl
 text_append [] (d ∷ b) x y h = absurd (omega arith)
 text_append (c ∷ a) [] x y h = absurd (omega arith)
 text_append (c ∷ a) (d ∷ b) x y h =
-    ap (λ (o : Order). else (number_order c d) o) (text_append a b x y (omega arith))
+    ap (λ (o : Ordering). else (number_order c d) o) (text_append a b x y (omega arith))
     ∙ sym (else_else (number_order c d) (text_order a b) (text_order x y))
 
 -- after a point in each, what follows decides
@@ -192,7 +193,7 @@ same_bytes_lem a b x y e v =
 
 -- two fields of one type, of right form and range and of one value, are the same bytes: so a fixed value may be compared either way
 pub one_spelling_each : (t : FieldType) (a b : List ℕ) → form t a ≡ true → range t a ≡ true → form t b ≡ true → range t b ≡ true
-    → paper a (value_of t a) ≡ paper b (value_of t b) → a ≡ b
+    → paper a (Ok (value_of t a)) ≡ paper b (Ok (value_of t b)) → a ≡ b
 unfolding form range value_of
 one_spelling_each (types.Text n) a b f r g k v = cc
 one_spelling_each (types.Int n) a b f r g k v = same_bytes_lem a b (int_value a) (int_value b) (by_value a b f g) (cc)

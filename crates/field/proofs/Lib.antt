@@ -1,5 +1,4 @@
 pub mod Filled
-pub mod Codes
 pub mod EachByValue
 pub mod OneAnswer
 pub mod Examples

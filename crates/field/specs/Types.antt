@@ -5,8 +5,8 @@ use Rattle.number.specs.Numbers.{digits, number, minus, unsigned, int_form, int_
 use Rattle.number.specs.Calendar.{is_date, is_time}
 use Rattle.field.specs.declared.FieldType.{FieldType}
 use Rattle.field.specs.declared.FieldType.TheVariants as types
-use Rattle.field.specs.declared.FieldAnswer.{FieldAnswer}
-use Rattle.field.specs.declared.FieldAnswer.TheVariants as answers
+use Rattle.field.specs.declared.Content.{Content}
+use Rattle.field.specs.declared.Content.TheVariants as contents
 
 -- listed characters, no leading or trailing space
 unfoldable pub text_form : List ℕ → Bool
@@ -43,15 +43,15 @@ range types.Period s = period_range s
 range types.Null s = true
 
 -- the value: a signed whole number, yes or no, or the bytes themselves
-unfoldable pub value_of : FieldType → List ℕ → FieldAnswer
-value_of (types.Text n) s = answers.Text
-value_of (types.Int n) s = answers.Number (int_value s)
-value_of (types.Dec p q) s = answers.Number (dec_value q s)
-value_of types.Date s = answers.Number (pos (number s))
-value_of types.Datetime s = answers.Number (pos (number s))
-value_of types.Bol s = answers.Truth (eqb (get_or s 0 0) 84)
-value_of types.Period s = answers.Number (pos (number s))
-value_of types.Null s = answers.Empty
+unfoldable pub value_of : FieldType → List ℕ → Content
+value_of (types.Text n) s = contents.Text
+value_of (types.Int n) s = contents.Number (int_value s)
+value_of (types.Dec p q) s = contents.Number (dec_value q s)
+value_of types.Date s = contents.Number (pos (number s))
+value_of types.Datetime s = contents.Number (pos (number s))
+value_of types.Bol s = contents.Truth (eqb (get_or s 0 0) 84)
+value_of types.Period s = contents.Number (pos (number s))
+value_of types.Null s = contents.Empty
 
 -- the type is null
 abbrev pub is_null : FieldType → Bool

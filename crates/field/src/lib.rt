@@ -1,18 +1,18 @@
 // One field's bytes judged against a type and its mark.
 #![tactic(auto)]
 
-ghost use Rattle.std.specs.Prelude.{◌≡◌, ◌&&◌, [], ◌<◌, ◌≤◌, ◌^◌, ◌+◌, ◌*◌, pos, length};
+ghost use Rattle.std.specs.Prelude.{◌≡◌, ◌&&◌, [], ◌<◌, ◌≤◌, ◌^◌, ◌+◌, ◌*◌, pos, length, Ok, Err};
 ghost use Rattle.text.specs.Rules.{must};
 ghost use Rattle.text.specs.Characters.{all, is_digit, from_to, IsClassTable};
 ghost use Rattle.field.specs.Types.{Sound, width_right, is_null};
-ghost use Rattle.field.specs.Judge.{bare, marked, may_be_empty, meets_mark, filled, field_answer, field_judged, paper, refusal_of};
+ghost use Rattle.field.specs.Judge.{bare, marked, may_be_empty, meets_mark, filled, field_answer, field_judged, paper, number_of};
 ghost use Rattle.field.specs.Leaves.{digits_answer, int_answer, negative_zero, dec_answer, pointed_answer, moment, moment_digits, in_calendar, moment_answer};
 ghost use Rattle.field.specs.Keys.{by_bytes, key_order};
 ghost use Rattle.field.specs.declared.FieldType.TheVariants as types;
-ghost use Rattle.field.specs.declared.FieldAnswer.TheVariants as answers;
+ghost use Rattle.field.specs.declared.Content.TheVariants as contents;
+ghost use Rattle.field.specs.declared.Wrong.TheVariants as wrongs;
 
-use number::Spelt;
-use text::Order;
+use std::cmp::Ordering;
 
 // The types of fields, with their widths.
 #[derive(Clone, Copy)]
@@ -35,58 +35,83 @@ pub enum Mark {
     Fixed,
 }
 
-// What is said of a field: a refusal by its number, or a value. The value Text is the field's own bytes.
-#[derive(Clone, Copy)]
-pub enum FieldAnswer {
-    Refused(u8),
+// What a field that passes holds; the value Text is the field's own bytes.
+#[derive(Clone, Copy, PartialEq, Eq, Debug)]
+pub enum Content {
     Empty,
     Number(i64),
     Truth(bool),
     Text,
 }
 
+// Why a field is refused: it is empty, of a wrong form, out of range, not what its mark or null fixes, or its type has no such width.
+#[derive(Clone, Copy, PartialEq, Eq, Debug)]
+pub enum Wrong {
+    Missing,
+    Form,
+    Range,
+    Fixed,
+    Width,
+}
+
+impl Wrong {
+    // The number of the refusal.
+    pub fn number(self) -> u8
+        ensures { result ≡ number_of self }
+    {
+        match self {
+            Wrong::Missing => 7,
+            Wrong::Form => 8,
+            Wrong::Range => 9,
+            Wrong::Fixed => 10,
+            Wrong::Width => 18,
+        }
+    }
+}
+
 // Digits after digits that spell `v`, with their sign.
-fn signed_digits(below: bool, v: u64, d: &[u8]) -> FieldAnswer
+#[tactic(auto, using(number::proofs::OnePass::spelling))]
+fn signed_digits(below: bool, v: u64, d: &[u8]) -> Result<Content, Wrong>
     requires { (v + 2) * 10 ^ length d.now ≤ 2 * 10 ^ 18 }
     ensures { result ≡ digits_answer below v d.now }
 {
-    match number::read_digits(v, d) {
-        Spelt::Digits(n) => FieldAnswer::Number(number::signed(below, n)),
-        Spelt::Other => FieldAnswer::Refused(8),
-    }
+    let Some(n) = number::read_digits(v, d) else {
+        return Err(Wrong::Form);
+    };
+    Ok(Content::Number(number::signed(below, n)))
 }
 
 // Too many bytes: the range is wrong, but the form comes first.
-fn too_long(d: &[u8]) -> FieldAnswer
-    ensures { result ≡ must (all is_digit d.now) (answers.Refused 8) (answers.Refused 9) }
+fn too_long(d: &[u8]) -> Wrong
+    ensures { result ≡ must (all is_digit d.now) wrongs.Form wrongs.Range }
 {
     if number::all_digits(d) {
-        return FieldAnswer::Refused(9);
+        return Wrong::Range;
     }
-    FieldAnswer::Refused(8)
+    Wrong::Form
 }
 
 // The bytes of an int, its minus taken off, by its sign: at most n digits.
-fn int_of(below: bool, d: &[u8], n: usize) -> FieldAnswer
+#[tactic(auto, using(crate::proofs::Filled::int_cases, number::proofs::OnePass::room_18), unfolding(crate::specs::Leaves::int_answer, number::specs::Numbers::plain))]
+fn int_of(below: bool, d: &[u8], n: usize) -> Result<Content, Wrong>
     requires { n ≤ 18 }
     ensures { result ≡ int_answer below n d.now }
 {
     if !number::leads_right(d) {
-        return FieldAnswer::Refused(8);
+        return Err(Wrong::Form);
     }
-    if below {
-        if d[0] == 48 {
-            return FieldAnswer::Refused(8);
-        }
+    if below && d[0] == b'0' {
+        return Err(Wrong::Form);
     }
     if n < d.len() {
-        return too_long(d);
+        return Err(too_long(d));
     }
     signed_digits(below, 0, d)
 }
 
 // An int by its sign.
-pub fn judge_int(s: &[u8], n: usize) -> FieldAnswer
+#[tactic(auto, using(crate::proofs::Filled::int_is))]
+pub fn judge_int(s: &[u8], n: usize) -> Result<Content, Wrong>
     requires { n ≤ 18 }
     ensures { result ≡ filled (types.Int n) bare s.now }
 {
@@ -94,69 +119,64 @@ pub fn judge_int(s: &[u8], n: usize) -> FieldAnswer
 }
 
 // A minus before nothing but zeros.
+#[tactic(auto, unfolding(crate::specs::Leaves::negative_zero))]
 fn negative_zero(below: bool, whole: &[u8], places: &[u8]) -> bool
     ensures { result ≡ negative_zero below whole.now places.now }
 {
-    if !below {
-        return false;
-    }
-    if !number::all_zero(whole) {
-        return false;
-    }
-    number::all_zero(places)
+    below && number::all_zero(whole) && number::all_zero(places)
 }
 
 // Too many bytes before and after the point: as too_long.
-fn both_too_long(whole: &[u8], places: &[u8]) -> FieldAnswer
-    ensures { result ≡ must (all is_digit whole.now && all is_digit places.now) (answers.Refused 8) (answers.Refused 9) }
+fn both_too_long(whole: &[u8], places: &[u8]) -> Wrong
+    ensures { result ≡ must (all is_digit whole.now && all is_digit places.now) wrongs.Form wrongs.Range }
 {
     if !number::all_digits(whole) {
-        return FieldAnswer::Refused(8);
+        return Wrong::Form;
     }
     too_long(places)
 }
 
 // The digits of a dec before its point and those after it, at most p in all.
-fn dec_parts(below: bool, whole: &[u8], places: &[u8], p: usize) -> FieldAnswer
+#[tactic(auto, using(crate::proofs::Filled::dec_cases, number::proofs::OnePass::spelling), unfolding(crate::specs::Leaves::dec_answer, number::specs::Numbers::plain))]
+fn dec_parts(below: bool, whole: &[u8], places: &[u8], p: usize) -> Result<Content, Wrong>
     requires { p ≤ 18 }
     ensures { result ≡ dec_answer below p whole.now places.now }
 {
     if !number::leads_right(whole) {
-        return FieldAnswer::Refused(8);
+        return Err(Wrong::Form);
     }
     if negative_zero(below, whole, places) {
-        return FieldAnswer::Refused(8);
+        return Err(Wrong::Form);
     }
-    if p < whole.len() {
-        return both_too_long(whole, places);
+    if p < whole.len() + places.len() {
+        return Err(both_too_long(whole, places));
     }
-    if p - whole.len() < places.len() {
-        return both_too_long(whole, places);
-    }
-    match number::read_digits(0, whole) {
-        Spelt::Digits(v) => signed_digits(below, v, places),
-        Spelt::Other => FieldAnswer::Refused(8),
-    }
+    let Some(v) = number::read_digits(0, whole) else {
+        return Err(Wrong::Form);
+    };
+    signed_digits(below, v, places)
 }
 
 // The bytes of a dec, its minus taken off, by its sign: a point before the last q.
-fn dec_of(below: bool, d: &[u8], p: usize, q: usize) -> FieldAnswer
+#[tactic(auto, using(text::proofs::Lists::rest), unfolding(crate::specs::Leaves::pointed_answer))]
+fn dec_of(below: bool, d: &[u8], p: usize, q: usize) -> Result<Content, Wrong>
     requires { p ≤ 18 }
     ensures { result ≡ pointed_answer below p q d.now }
 {
     if d.len() <= q {
-        return FieldAnswer::Refused(8);
+        return Err(Wrong::Form);
     }
     let e = d.len() - q;
     let point = e - 1;
-    if d[point] != 46 {
-        return FieldAnswer::Refused(8);
+    if d[point] != b'.' {
+        return Err(Wrong::Form);
     }
     dec_parts(below, &d[..point], &d[e..], p)
 }
 
 // A dec by its sign.
-pub fn judge_dec(s: &[u8], p: usize, q: usize) -> FieldAnswer
+#[tactic(auto, using(crate::proofs::Filled::dec_is))]
+pub fn judge_dec(s: &[u8], p: usize, q: usize) -> Result<Content, Wrong>
     requires { p ≤ 18 }
     ensures { result ≡ filled (types.Dec p q) bare s.now }
 {
@@ -167,137 +187,129 @@ pub fn judge_dec(s: &[u8], p: usize, q: usize) -> FieldAnswer
 fn in_calendar(timed: bool, v: u64) -> bool
     ensures { result ≡ in_calendar timed v }
 {
-    if !timed {
-        return number::is_date(v);
+    if timed {
+        number::is_date(v / 1000000) && number::is_time(v % 1000000)
+    } else {
+        number::is_date(v)
     }
-    if !number::is_date(v / 1000000) {
-        return false;
-    }
-    number::is_time(v % 1000000)
 }
 
 // The digits of a moment as one number.
-fn moment_answer(timed: bool, v: u64) -> FieldAnswer
+fn moment_answer(timed: bool, v: u64) -> Result<Content, Wrong>
     requires { v < 2 ^ 63 }
     ensures { result ≡ moment_answer timed v }
 {
     if !in_calendar(timed, v) {
-        return FieldAnswer::Refused(9);
+        return Err(Wrong::Range);
     }
-    FieldAnswer::Number(number::signed(false, v))
+    Ok(Content::Number(number::signed(false, v)))
 }
 
 // A moment is so many digits, then what the calendar has.
-fn judge_moment(timed: bool, n: usize, s: &[u8]) -> FieldAnswer
-    requires { n ≡ moment_digits timed }
+#[tactic(auto, using(crate::proofs::Filled::moment_is, number::proofs::OnePass::spelling))]
+fn judge_moment(timed: bool, s: &[u8]) -> Result<Content, Wrong>
     ensures { result ≡ filled (moment timed) bare s.now }
 {
-    if s.len() != n {
-        return FieldAnswer::Refused(8);
+    let digits = if timed { 14 } else { 8 };
+    if s.len() != digits {
+        return Err(Wrong::Form);
     }
-    match number::read_digits(0, s) {
-        Spelt::Digits(v) => moment_answer(timed, v),
-        Spelt::Other => FieldAnswer::Refused(8),
-    }
+    let Some(v) = number::read_digits(0, s) else {
+        return Err(Wrong::Form);
+    };
+    moment_answer(timed, v)
 }
 
 // A date is 8 digits, then a day of the calendar.
-pub fn judge_date(s: &[u8]) -> FieldAnswer
+pub fn judge_date(s: &[u8]) -> Result<Content, Wrong>
     ensures { result ≡ filled types.Date bare s.now }
 {
-    judge_moment(false, 8, s)
+    judge_moment(false, s)
 }
 
 // A datetime is 14 digits, then a day of the calendar and a time of the day.
-pub fn judge_datetime(s: &[u8]) -> FieldAnswer
+pub fn judge_datetime(s: &[u8]) -> Result<Content, Wrong>
     ensures { result ≡ filled types.Datetime bare s.now }
 {
-    judge_moment(true, 14, s)
+    judge_moment(true, s)
 }
 
 // T or F.
-pub fn judge_bol(s: &[u8]) -> FieldAnswer
+#[tactic(auto, unfolding(crate::specs::Judge::filled, crate::specs::Types::form, crate::specs::Types::range, crate::specs::Types::value_of, crate::specs::Types::bol_form))]
+pub fn judge_bol(s: &[u8]) -> Result<Content, Wrong>
     ensures { result ≡ filled types.Bol bare s.now }
 {
-    if s.len() != 1 {
-        return FieldAnswer::Refused(8);
+    match s {
+        b"T" => Ok(Content::Truth(true)),
+        b"F" => Ok(Content::Truth(false)),
+        _ => Err(Wrong::Form),
     }
-    if s[0] == 84 {
-        return FieldAnswer::Truth(true);
-    }
-    if s[0] == 70 {
-        return FieldAnswer::Truth(false);
-    }
-    FieldAnswer::Refused(8)
 }
 
 // Periods are 1 to 50.
-fn period_answer(v: u64) -> FieldAnswer
-    ensures { result ≡ must (from_to 1 50 v) (answers.Refused 9) (answers.Number (pos v)) }
+fn period_answer(v: u64) -> Result<Content, Wrong>
+    ensures { result ≡ must (from_to 1 50 v) (Err wrongs.Range) (Ok (contents.Number (pos v))) }
 {
-    if v < 1 {
-        return FieldAnswer::Refused(9);
+    if !(1..=50).contains(&v) {
+        return Err(Wrong::Range);
     }
-    if 50 < v {
-        return FieldAnswer::Refused(9);
-    }
-    FieldAnswer::Number(number::signed(false, v))
+    Ok(Content::Number(number::signed(false, v)))
 }
 
 // An int first; one below zero is out of range like one of too many digits.
-pub fn judge_period(s: &[u8]) -> FieldAnswer
+#[tactic(auto, using(crate::proofs::Filled::period_cases, number::proofs::OnePass::spelling))]
+pub fn judge_period(s: &[u8]) -> Result<Content, Wrong>
     ensures { result ≡ filled types.Period bare s.now }
 {
     if number::minus(s) {
-        return int_of(true, &s[1..], 0);
+        return int_of(true, number::unsigned(s), 0);
     }
     if !number::leads_right(s) {
-        return FieldAnswer::Refused(8);
+        return Err(Wrong::Form);
     }
     if 2 < s.len() {
-        return too_long(s);
+        return Err(too_long(s));
     }
-    match number::read_digits(0, s) {
-        Spelt::Digits(v) => period_answer(v),
-        Spelt::Other => FieldAnswer::Refused(8),
-    }
+    let Some(v) = number::read_digits(0, s) else {
+        return Err(Wrong::Form);
+    };
+    period_answer(v)
 }
 
 // A null field is never filled.
-fn judge_null(s: &[u8]) -> FieldAnswer
+#[tactic(auto, unfolding(crate::specs::Judge::filled, crate::specs::Types::form, crate::specs::Types::range, crate::specs::Types::value_of))]
+fn judge_null(s: &[u8]) -> Result<Content, Wrong>
     ensures { result ≡ filled types.Null bare s.now }
 {
-    if s.len() != 0 {
-        return FieldAnswer::Refused(8);
+    if !s.is_empty() {
+        return Err(Wrong::Form);
     }
-    FieldAnswer::Empty
+    Ok(Content::Empty)
 }
 
 // No space at either end, listed characters, at most n of them.
-pub fn judge_text(class: &[u8; 256], s: &[u8], n: usize) -> FieldAnswer
+#[tactic(auto, unfolding(crate::specs::Judge::filled, crate::specs::Types::form, crate::specs::Types::range, crate::specs::Types::value_of, crate::specs::Types::text_form))]
+pub fn judge_text(class: &[u8; 256], s: &[u8], n: usize) -> Result<Content, Wrong>
     requires { IsClassTable class.now }
     ensures { result ≡ filled (types.Text n) bare s.now }
 {
-    if s.len() == 0 {
-        return FieldAnswer::Text;
+    if s.is_empty() {
+        return Ok(Content::Text);
     }
-    if s[0] == 32 {
-        return FieldAnswer::Refused(8);
-    }
-    if s[s.len() - 1] == 32 {
-        return FieldAnswer::Refused(8);
+    if matches!(s, [b' ', ..] | [.., b' ']) {
+        return Err(Wrong::Form);
     }
     if !text::all_text(class, s) {
-        return FieldAnswer::Refused(8);
+        return Err(Wrong::Form);
     }
     if n < s.len() {
-        return FieldAnswer::Refused(9);
+        return Err(Wrong::Range);
     }
-    FieldAnswer::Text
+    Ok(Content::Text)
 }
 
 // Form, then range, then the value.
-fn judge_type(t: FieldType, class: &[u8; 256], s: &[u8]) -> FieldAnswer
+fn judge_type(t: FieldType, class: &[u8; 256], s: &[u8]) -> Result<Content, Wrong>
     requires { Sound t × IsClassTable class.now }
     ensures { result ≡ filled t bare s.now }
 {
@@ -313,44 +325,18 @@ fn judge_type(t: FieldType, class: &[u8; 256], s: &[u8]) -> FieldAnswer
     }
 }
 
-// The refusal's number, or 0.
-pub fn refusal(a: FieldAnswer) -> u8
-    ensures { result ≡ refusal_of a }
-{
-    match a {
-        FieldAnswer::Refused(n) => n,
-        FieldAnswer::Empty => 0,
-        FieldAnswer::Number(_) => 0,
-        FieldAnswer::Truth(_) => 0,
-        FieldAnswer::Text => 0,
-    }
-}
-
 // The type is null.
 fn is_null(t: FieldType) -> bool
     ensures { result ≡ is_null t }
 {
-    match t {
-        FieldType::Text(_) => false,
-        FieldType::Int(_) => false,
-        FieldType::Dec(_, _) => false,
-        FieldType::Date => false,
-        FieldType::Datetime => false,
-        FieldType::Bol => false,
-        FieldType::Period => false,
-        FieldType::Null => true,
-    }
+    matches!(t, FieldType::Null)
 }
 
 // A field with this mark may be empty, whatever bytes are lent beside it.
 fn is_opt(m: Mark) -> bool
     ensures { result ≡ may_be_empty (marked m []) }
 {
-    match m {
-        Mark::Bare => false,
-        Mark::Opt => true,
-        Mark::Fixed => false,
-    }
+    matches!(m, Mark::Opt)
 }
 
 // A fixed value is compared as bytes.
@@ -358,81 +344,74 @@ fn meets_mark(m: Mark, fixed: &[u8], s: &[u8]) -> bool
     ensures { result ≡ meets_mark (marked m fixed.now) s.now }
 {
     match m {
-        Mark::Bare => true,
-        Mark::Opt => true,
+        Mark::Bare | Mark::Opt => true,
         Mark::Fixed => text::same_bytes(fixed, s),
     }
 }
 
 // A field by its type and mark: 7, 8, 9, 10, or what it holds.
-pub fn judge_marked(t: FieldType, m: Mark, fixed: &[u8], class: &[u8; 256], s: &[u8]) -> FieldAnswer
+#[tactic(auto, using(crate::proofs::Filled::mark_last, crate::proofs::Filled::any_bytes), unfolding(crate::specs::Judge::field_answer))]
+pub fn judge_marked(
+    t: FieldType,
+    m: Mark,
+    fixed: &[u8],
+    class: &[u8; 256],
+    s: &[u8],
+) -> Result<Content, Wrong>
     requires { Sound t × IsClassTable class.now }
     ensures { result ≡ field_answer t (marked m fixed.now) s.now }
 {
     if is_null(t) {
-        if s.len() == 0 {
-            return FieldAnswer::Empty;
+        if s.is_empty() {
+            return Ok(Content::Empty);
         }
-        return FieldAnswer::Refused(10);
+        return Err(Wrong::Fixed);
     }
-    if s.len() == 0 {
+    if s.is_empty() {
         if is_opt(m) {
-            return FieldAnswer::Empty;
+            return Ok(Content::Empty);
         }
-        return FieldAnswer::Refused(7);
+        return Err(Wrong::Missing);
     }
-    let a = judge_type(t, class, s);
-    if refusal(a) != 0 {
-        return a;
-    }
+    let content = judge_type(t, class, s)?;
     if !meets_mark(m, fixed, s) {
-        return FieldAnswer::Refused(10);
+        return Err(Wrong::Fixed);
     }
-    a
-}
-
-// n is one of the numbers from lo to hi.
-fn within(lo: usize, hi: usize, n: usize) -> bool
-    ensures { result ≡ from_to lo hi n }
-{
-    if n < lo {
-        return false;
-    }
-    n <= hi
+    Ok(content)
 }
 
 // The widths of a dec: p 2 to 18, q 1 to p-1.
+#[tactic(auto, unfolding(crate::specs::Types::width_right))]
 fn dec_width(p: usize, q: usize) -> bool
     ensures { result ≡ width_right (types.Dec p q) }
 {
-    if !within(2, 18, p) {
-        return false;
-    }
-    within(1, p - 1, q)
+    (2..=18).contains(&p) && (1..p).contains(&q)
 }
 
 // The widths that there are: text 1 to 512, int 1 to 18, dec p 2 to 18 with q 1 to p-1.
+#[tactic(auto, unfolding(crate::specs::Types::width_right))]
 fn width_right(t: FieldType) -> bool
     ensures { result ≡ width_right t }
 {
     match t {
-        FieldType::Text(n) => within(1, 512, n),
-        FieldType::Int(n) => within(1, 18, n),
+        FieldType::Text(n) => (1..=512).contains(&n),
+        FieldType::Int(n) => (1..=18).contains(&n),
         FieldType::Dec(p, q) => dec_width(p, q),
-        FieldType::Date => true,
-        FieldType::Datetime => true,
-        FieldType::Bol => true,
-        FieldType::Period => true,
-        FieldType::Null => true,
+        FieldType::Date
+        | FieldType::Datetime
+        | FieldType::Bol
+        | FieldType::Period
+        | FieldType::Null => true,
     }
 }
 
 // The judge of one field's bytes: any type, any width, any mark, any bytes.
-pub fn judge(t: FieldType, m: Mark, fixed: &[u8], s: &[u8]) -> FieldAnswer
+#[tactic(auto, using(crate::proofs::Filled::right_sound), unfolding(crate::specs::Judge::field_judged, crate::specs::Judge::judged_as))]
+pub fn judge(t: FieldType, m: Mark, fixed: &[u8], s: &[u8]) -> Result<Content, Wrong>
     ensures { paper s.now result ≡ field_judged t (marked m fixed.now) s.now }
 {
     if !width_right(t) {
-        return FieldAnswer::Refused(18);
+        return Err(Wrong::Width);
     }
     let class = text::class_table();
     judge_marked(t, m, fixed, &class, s)
@@ -442,20 +421,12 @@ pub fn judge(t: FieldType, m: Mark, fixed: &[u8], s: &[u8]) -> FieldAnswer
 fn by_bytes(t: FieldType) -> bool
     ensures { result ≡ by_bytes t }
 {
-    match t {
-        FieldType::Text(_) => true,
-        FieldType::Int(_) => false,
-        FieldType::Dec(_, _) => false,
-        FieldType::Date => false,
-        FieldType::Datetime => false,
-        FieldType::Bol => true,
-        FieldType::Period => false,
-        FieldType::Null => true,
-    }
+    matches!(t, FieldType::Text(_) | FieldType::Bol | FieldType::Null)
 }
 
 // How the key a stands to the key b: texts by byte, all others by value.
-pub fn key_order(t: FieldType, a: &[u8], b: &[u8]) -> Order
+#[tactic(auto, unfolding(crate::specs::Keys::key_order))]
+pub fn key_order(t: FieldType, a: &[u8], b: &[u8]) -> Ordering
     ensures { result ≡ key_order t a.now b.now }
 {
     if by_bytes(t) {

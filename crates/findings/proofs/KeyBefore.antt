@@ -8,13 +8,12 @@ use lib.Dec.{eqb}
 use Rattle.text.specs.Rules.{must}
 use Rattle.layout.specs.Layout.{Layout, row}
 use Rattle.fault.specs.Record.{kind_of, key_in, key_fault}
-use Rattle.fault.specs.declared.Check.{Check}
-use Rattle.fault.specs.declared.Check.TheVariants.{Fine, Fault}
+use Rattle.fault.specs.Fields.{Check, fine, fault}
 use Rattle.judge.specs.Record.{key_with, key_before}
 use Rattle.findings.specs.Lines.{with_one, last_of_kind}
 
 -- no key out of its order where there is none before it
-always : (none : Bool) (number : ℕ) → must (none || true) (Fault 11 number) Fine ≡ Fine
+always : (none : Bool) (number : ℕ) → must (none || true) (fault 11 number) fine ≡ fine
 always true number = refl
 always false number = refl
 
@@ -39,15 +38,15 @@ module _ (sep : ℕ) (l : Layout) (k : ℕ) where
   unfolding key_before last_of_kind
   key_of_last before = kept [] [] before (inl refl)
 
-  no_fault : (old key : List ℕ) → old ≡ [] → key_fault l k old key ≡ Fine
+  no_fault : (old key : List ℕ) → old ≡ [] → key_fault l k old key ≡ fine
   unfolding key_fault
   no_fault old key e = ap (λ (x : List ℕ). key_fault l k x key) e ∙ always (eqb (row l k).key 0) (row l k).key
 
-  refused_by : (old key r : List ℕ) (field : ℕ) → key_fault l k old key ≡ Fault 11 field → KeyOf old r → old ≡ key_in sep l k r
-  refused_by old key r field e (inl h) = let z : ◌≡◌ {A = Check} Fine (Fault 11 field) = sym (no_fault old key h) ∙ e in cc
+  refused_by : (old key r : List ℕ) (field : ℕ) → key_fault l k old key ≡ fault 11 field → KeyOf old r → old ≡ key_in sep l k r
+  refused_by old key r field e (inl h) = let z : ◌≡◌ {A = Check} fine (fault 11 field) = sym (no_fault old key h) ∙ e in cc
   refused_by old key r field e (inr h) = h
 
   -- where a key is refused, the key before is that of the last record of its kind
-  pub held_against : (before : List (List ℕ)) (key : List ℕ) (field : ℕ) → key_fault l k (key_before sep l before k) key ≡ Fault 11 field
+  pub held_against : (before : List (List ℕ)) (key : List ℕ) (field : ℕ) → key_fault l k (key_before sep l before k) key ≡ fault 11 field
       → key_before sep l before k ≡ key_in sep l k (last_of_kind sep l k before)
   held_against before key field e = refused_by (key_before sep l before k) key (last_of_kind sep l k before) field e (key_of_last before)

@@ -8,12 +8,13 @@ use Rattle.text.specs.Characters.{from_to}
 use Rattle.text.specs.Rules.{must}
 use Rattle.number.specs.Calendar.{days_in, is_day, is_date}
 use Rattle.findings.specs.Dates.{missing_in}
-use Rattle.findings.specs.declared.Missing.{Missing}
-use Rattle.findings.specs.declared.Missing.TheVariants.{Year, Month, Day, Nothing}
+use Rattle.findings.specs.declared.Part.{Part}
+use Rattle.findings.specs.declared.Part.TheVariants.{Year, Month, Day}
+use Rattle.std.specs.Prelude.{Option, Some, None}
 
 -- the three tests
-abbrev tested : Bool → Bool → Bool → Missing
-tested year month day = must year Year (must month Month (must day Day Nothing))
+abbrev tested : Bool → Bool → Bool → Option Part
+tested year month day = must year (Some Year) (must month (Some Month) (must day (Some Day) None))
 
 -- each with those before it comes to the same
 tests_joined : (a b c : Bool) → tested ((a && true) && true) ((a && b) && true) ((a && b) && c) ≡ tested a b c
@@ -43,14 +44,14 @@ by_first_days v =
 pub found : (v : ℕ) {a b c : Bool} → is_day (v / 10000) 1 1 ≡ a → is_day (v / 10000) (v / 100 % 100) 1 ≡ b → is_date v ≡ c → tested a b c ≡ missing_in v
 found v e f g = rw (sym e, sym f, sym g) (by_first_days v)
 
-all_there : (a b c : Bool) → (tested a b c ≡ Nothing) ↔ (((a && b) && c) ≡ true)
+all_there : (a b c : Bool) → (tested a b c ≡ None) ↔ (((a && b) && c) ≡ true)
 all_there true true true = (λ e. refl, λ e. refl)
 all_there true true false = (λ e. cc, λ e. cc)
 all_there true false c = (λ e. cc, λ e. cc)
 all_there false b c = (λ e. cc, λ e. cc)
 
 -- nothing is missing exactly where the date is one
-pub nothing_missing : (v : ℕ) → (missing_in v ≡ Nothing) ↔ (is_date v ≡ true)
+pub nothing_missing : (v : ℕ) → (missing_in v ≡ None) ↔ (is_date v ≡ true)
 unfolding missing_in is_date is_day
 nothing_missing v =
     let y = v / 10000 in

@@ -1,10 +1,9 @@
 -- What is found in a file or a sheet where it is refused; its fields are parted by the byte sep. Assumes nothing.
-use Rattle.std.specs.Prelude.{ℕ, ◌-◌, Bool, cond, eqb, take, drop}
+use Rattle.std.specs.Prelude.{ℕ, ◌-◌, Bool, cond, eqb, take}
 use mathlib.Core.List.{List, [], foldl}
 use Rattle.record.specs.Records.{records, field}
 use Rattle.layout.specs.Layout.{Layout, is_footer}
 use Rattle.fault.specs.Record.{kind_of}
-use Rattle.findings.specs.declared.Span.{Span}
 
 -- line n of a sheet is a ZPT line
 abbrev pub footer_line : ℕ → Layout → List ℕ → ℕ → Bool
@@ -21,7 +20,3 @@ last_of_kind sep l k rs = foldl (with_one sep l k) [] rs
 -- the records before record n
 abbrev pub records_before : List ℕ → ℕ → List (List ℕ)
 records_before f n = take (n - 1) (records f)
-
--- the bytes of a span
-abbrev pub spanned : List ℕ → Span → List ℕ
-spanned f s = take s.len (drop s.from f)

@@ -10,34 +10,33 @@ ghost use Rattle.layout.specs.Numbers.{layout_of};
 ghost use Rattle.fault.specs.Record.{kind_of};
 ghost use Rattle.findings.specs.Dates.{missing_in};
 ghost use Rattle.findings.specs.Words.{refused_part};
-ghost use Rattle.findings.specs.Lines.{footer_line, spanned, with_one, last_of_kind, records_before};
+ghost use Rattle.findings.specs.Lines.{footer_line, with_one, last_of_kind, records_before};
 
 use place::Refusal;
-use record::{Cursor, FEED, Step};
+use record::{FEED, RecordSpans};
 
-// The part of a date that the calendar does not have.
-#[derive(Clone, Copy)]
-pub enum Missing {
+// A part of a date.
+#[derive(Clone, Copy, Debug, PartialEq, Eq)]
+pub enum Part {
     Year,
     Month,
     Day,
-    Nothing,
 }
 
 // The first part of YYYYMMDD, as one number, that the calendar does not have.
-pub fn missing_in(v: u64) -> Missing
+pub fn missing_in(v: u64) -> Option<Part>
     ensures { result ≡ missing_in v }
 {
     if !number::is_day(v / 10000, 1, 1) {
-        return Missing::Year;
+        return Some(Part::Year);
     }
     if !number::is_day(v / 10000, v / 100 % 100, 1) {
-        return Missing::Month;
+        return Some(Part::Month);
     }
     if !number::is_date(v) {
-        return Missing::Day;
+        return Some(Part::Day);
     }
-    Missing::Nothing
+    None
 }
 
 // The bytes of the field that a refusal names.
@@ -61,19 +60,12 @@ pub fn is_footer_line(t: &[u32], sep: u8, sheet: &[u8], n: usize) -> bool
     layout::is_footer(t, kind_at(t, sep, sheet, n))
 }
 
-// Where some bytes of a file stand, and how many there are.
-#[derive(Clone, Copy)]
-pub struct Span {
-    from: usize,
-    len: usize,
-}
-
-// The span of a record that is of the kind, and else that of the last one before it that was.
-fn with_one(t: &[u32], sep: u8, kind: usize, file: &[u8], last: Span, r: Span) -> Span
-    ensures { (fixed : List ℕ) → spanned file.now result ≡ with_one sep (layout_of t.now fixed) kind (spanned file.now last) (spanned file.now r) }
+// The record where it is of the kind, and else the last one before it that was.
+fn with_one<'a>(t: &[u32], sep: u8, kind: usize, last: &'a [u8], found: &'a [u8]) -> &'a [u8]
+    ensures { (fixed : List ℕ) → result.now ≡ with_one sep (layout_of t.now fixed) kind last.now found.now }
 {
-    if fault::kind_of(t, sep, text::part(file, r.from, r.len)) == kind {
-        return r;
+    if fault::kind_of(t, sep, found) == kind {
+        return found;
     }
     last
 }
@@ -82,26 +74,11 @@ fn with_one(t: &[u32], sep: u8, kind: usize, file: &[u8], last: Span, r: Span) -
 pub fn last_of_kind<'a>(t: &[u32], sep: u8, kind: usize, file: &'a [u8], n: usize) -> &'a [u8]
     ensures { (fixed : List ℕ) → result.now ≡ last_of_kind sep (layout_of t.now fixed) kind (records_before file.now n) }
 {
-    let mut c = Cursor { at: 0 };
-    let mut left = n;
-    let mut last = Span { from: 0, len: 0 };
-    while 1 < left {
-        match c.step(file) {
-            Step::Done => {
-                return text::part(file, last.from, last.len);
-            }
-            Step::Record { start, end, next } => {
-                let r = Span {
-                    from: start,
-                    len: end - start,
-                };
-                last = with_one(t, sep, kind, file, last, r);
-                left -= 1;
-                c = next;
-            }
-        }
+    let mut last: &[u8] = &[];
+    for record in RecordSpans::of(file).take(n.saturating_sub(1)) {
+        last = with_one(t, sep, kind, last, record.of(file));
     }
-    text::part(file, last.from, last.len)
+    last
 }
 
 // The part of a caller's words that is refused with a number: by 22 the flow, in eight characters, by 21 the edition, behind them and the
@@ -109,13 +86,11 @@ pub fn last_of_kind<'a>(t: &[u32], sep: u8, kind: usize, file: &'a [u8], n: usiz
 pub fn refused_part<'a>(words: &'a [u8], number: usize) -> &'a [u8]
     ensures { result.now ≡ refused_part words.now number }
 {
-    if number == 21 {
-        return text::part(words, 9, words.len());
+    match number {
+        21 => text::part(words, 9, words.len()),
+        22 => text::part(words, 0, 8),
+        _ => words,
     }
-    if number == 22 {
-        return text::part(words, 0, 8);
-    }
-    text::part(words, 0, words.len())
 }
 
 // How many fields a kind has, its name among them.
@@ -133,8 +108,5 @@ const LAST: usize = 22;
 pub fn is_refusal(n: usize) -> bool
     ensures { result ≡ from_to 1 22 n }
 {
-    if n < 1 {
-        return false;
-    }
-    n <= LAST
+    (1..=LAST).contains(&n)
 }

@@ -7,7 +7,8 @@ use native.Mathlib.Omega.{arith}
 use lib.Dec.{T, eqb}
 use native.Mathlib.Nat.{add-zero}
 use lib.ListN.{length, get_or, take, drop, length-append, length-drop}
-use lib.Seq.{take_at, take_all, drop_at, get_or-append-add}
+use lib.Seq.{take_at, take_all, drop_at, drop-drop, get_or-append-add}
+use Rattle.std.proofs.lemmas.List.{get_or-drop}
 use borrow.Author.Tests.{eq-eqb, ne_eqb, eqb-true}
 use Rattle.text.specs.Characters.{all}
 use Rattle.text.specs.Order.{same_bytes}
@@ -106,9 +107,11 @@ module _ (words : List ℕ) where
     is_held : held (name_in words) ≡ true
     is_held = rw (← is, ne_eqb n 0 some)
 
-    pub asked_odd : (length words ≡ 8 → ⊥) → (get_or words 8 0 ≡ 0x20 → ⊥) → asked words ≡ no_flow (whole 1)
+    pub asked_odd : (length words ≡ 8 → ⊥) → (get_or (drop 8 words) 0 0 ≡ 0x20 → ⊥) → asked words ≡ no_flow (whole 1)
     unfolding asked
-    asked_odd h s = rw (is_held, ne_eqb (length words) 8 h, ne_eqb (get_or words 8 0) 0x20 s)
+    asked_odd h s =
+        let other : get_or words 8 0 ≡ 0x20 → ⊥ = λ e. s (get_or-drop 8 words 0 0 ∙ e) in
+        rw (is_held, ne_eqb (length words) 8 h, ne_eqb (get_or words 8 0) 0x20 other)
 
     named : (edition : List ℕ) → must (is_edition edition) (no_flow (whole 21)) (a_flow (flow_in edition (name_in words))) ≡ in_edition n edition
     named edition =
@@ -120,12 +123,16 @@ module _ (words : List ℕ) where
     asked_usual h = rw (is_held, eq-eqb (length words) 8 h) (named usual)
 
     -- the edition is what stands behind the space, up to the end
-    pub asked_edition : (length words ≡ 8 → ⊥) → get_or words 8 0 ≡ 0x20 → asked words ≡ in_edition n (take (length words - 9) (drop 9 words))
+    pub asked_edition : (length words ≡ 8 → ⊥) → get_or (drop 8 words) 0 0 ≡ 0x20
+        → asked words ≡ in_edition n (take (length (drop 8 words) - 1) (drop 1 (drop 8 words)))
     unfolding asked
     asked_edition h s =
-        let all : length (drop 9 words) ≤ length words - 9 = simp length-drop (omega arith) in
-        rw (is_held, ne_eqb (length words) 8 h, eq-eqb (get_or words 8 0) 0x20 s)
-        (named (drop 9 words) ∙ ap (in_edition n) (sym (take_all (length words - 9) (drop 9 words) all)))
+        let space : get_or words 8 0 ≡ 0x20 = sym (get_or-drop 8 words 0 0) ∙ s in
+        let behind : drop 1 (drop 8 words) ≡ drop 9 words = drop-drop 1 8 words in
+        let all : length (drop 9 words) ≤ length (drop 8 words) - 1 = simp length-drop (omega arith) in
+        rw (is_held, ne_eqb (length words) 8 h, eq-eqb (get_or words 8 0) 0x20 space)
+        (named (drop 9 words)
+        ∙ ap (in_edition n) (sym (take_all (length (drop 8 words) - 1) (drop 9 words) all) ∙ ap (take (length (drop 8 words) - 1)) (sym behind)))
 
   ordered : (b c : Bool) (r q : Refusal) (f : Flow) → Proper f → ProperAsked (must b (no_flow r) (must c (no_flow q) (a_flow f)))
   ordered true true r q f p = p

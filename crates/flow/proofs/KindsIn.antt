@@ -2,9 +2,10 @@
 use Prim.Native.Nat.{ℕ, ◌+◌, ◌-◌, ◌<◌, ◌≤◌}
 use mathlib.Core.Path.{◌≡◌, refl, ap, ◌∙◌}
 use mathlib.Core.List.{List, [], ◌∷◌}
+use native.Mathlib.Decide.{dec_lt}
 use native.Mathlib.Omega.{arith}
 use lib.ListN.{length, take, drop, length-drop, drop_of_length-le}
-use lib.Seq.{drop-drop}
+use lib.Seq.{drop-drop, take_all}
 use Rattle.flow.specs.Step.{kinds_in}
 
 -- fewer than three bytes are one kind that is cut short
@@ -24,14 +25,18 @@ kinds_more (a ∷ b ∷ []) h = absurd (omega arith)
 kinds_more (a ∷ b ∷ c ∷ u) h = refl
 
 module _ (s : List ℕ) (a : ℕ) where
-  pub kinds_cut : a < length s → length s - a < 3 → kinds_in (drop a s) ≡ drop a s ∷ []
-  kinds_cut h k = kinds_short (drop a s) (omega (arith, length-drop a s)) (omega (arith, length-drop a s))
-
-  pub kinds_next : a + 3 ≤ length s → kinds_in (drop a s) ≡ take (a + 3 - a) (drop a s) ∷ kinds_in (drop (a + 3) s)
-  kinds_next h =
-      let z : a + 3 - a ≡ 3 = omega arith in
-      rw z (kinds_more (drop a s) (omega (arith, length-drop a s)) ∙ ap (λ (u : List ℕ). take 3 (drop a s) ∷ kinds_in u) (drop-drop 3 a s))
-
   pub kinds_end : length s ≤ a → kinds_in (drop a s) ≡ []
   unfolding kinds_in
   kinds_end h = rw (drop_of_length-le s h)
+
+-- from a place on, the first kind is the next three bytes, or fewer at the end
+module _ (s : List ℕ) (a : ℕ) (h : a < length s) where
+  first_go : Dec (length s - a < 3) → kinds_in (drop a s) ≡ take 3 (drop a s) ∷ kinds_in (drop (a + 3) s)
+  first_go (yes k) =
+      let whole : take 3 (drop a s) ≡ drop a s = take_all 3 (drop a s) (omega (arith, length-drop a s)) in
+      rw (whole, kinds_end s (a + 3) (omega arith)) (kinds_short (drop a s) (omega (arith, length-drop a s)) (omega (arith, length-drop a s)))
+  first_go (no k) =
+      kinds_more (drop a s) (omega (arith, length-drop a s)) ∙ ap (λ (u : List ℕ). take 3 (drop a s) ∷ kinds_in u) (drop-drop 3 a s)
+
+  pub kinds_first : kinds_in (drop a s) ≡ take 3 (drop a s) ∷ kinds_in (drop (a + 3) s)
+  kinds_first = first_go (dec_lt (length s - a) 3)

@@ -9,8 +9,10 @@ use Rattle.text.proofs.Inverse.{same_said}
 use Rattle.place.specs.Places.{refusal}
 use Rattle.grammar.specs.Right.{Completes}
 use Rattle.grammar.proofs.Walks.{one_place, stopped_or_begun}
-use Rattle.flow.specs.declared.StepAnswer.{StepAnswer}
-use Rattle.flow.specs.declared.StepAnswer.TheVariants.{Refused, Stopped, Through}
+use Rattle.std.specs.Prelude.{Result, Ok, Err}
+use Rattle.flow.specs.declared.Through.{Through}
+use Rattle.flow.specs.declared.NoStep.{NoStep}
+use Rattle.flow.specs.declared.NoStep.TheVariants.{Refused, Stopped}
 use Rattle.flow.specs.Publication.{Flow}
 use Rattle.flow.specs.Editions.{Asked, a_flow, no_flow}
 use Rattle.flow.specs.Step.{kinds_in, end_to_end, StoppedAt, WentThrough, Reply, refused, stopped, through, paper, ReplyRight, StepRight}
@@ -57,18 +59,18 @@ one_reply (a_flow f) bytes old (through m a) (stopped q) new other s t = absurd 
 one_reply (a_flow f) bytes old (through m a) (through n b) new other s t = one_way f (kinds_in bytes) old m n a b new other s t
 
 -- the answer that says this
-abbrev said : Reply → StepAnswer
-said (refused n r f place) = Refused (refusal n r f place)
-said (stopped p) = Stopped p
-said (through m a) = Through m a
+abbrev said : Reply → Result Through NoStep
+said (refused n r f place) = Err (Refused (refusal n r f place))
+said (stopped p) = Err (Stopped p)
+said (through m a) = Ok (record { count = m; complete = a })
 
-said_paper : (a : StepAnswer) → said (paper a) ≡ a
-said_paper (Refused r) = refl
-said_paper (Stopped p) = refl
-said_paper (Through m a) = refl
+said_paper : (a : Result Through NoStep) → said (paper a) ≡ a
+said_paper (Err (Refused r)) = refl
+said_paper (Err (Stopped p)) = refl
+said_paper (Ok t) = refl
 
 -- so two answers of the code that meet the contract are the same
-pub one_step : (x : Asked) (bytes old : List ℕ) (a b : StepAnswer) (new other : List ℕ)
+pub one_step : (x : Asked) (bytes old : List ℕ) (a b : Result Through NoStep) (new other : List ℕ)
     → StepRight x bytes a old new → StepRight x bytes b old other → (a ≡ b) × (new ≡ other)
 one_step x bytes old a b new other s t =
     let one = one_reply x bytes old (paper a) (paper b) new other s t in

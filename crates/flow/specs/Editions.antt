@@ -1,5 +1,5 @@
 -- The words by which a caller asks for a flow, and what they ask for (document 01, refusal 1; document 02, C-16). Assumes nothing.
-use Rattle.std.specs.Prelude.{ℕ, Bool, cond, ◌&&◌, ◌||◌, List, eqb, length, get_or, take, drop}
+use Rattle.std.specs.Prelude.{ℕ, Bool, cond, ◌&&◌, ◌||◌, List, eqb, length, get_or, take, drop, Result, Ok, Err}
 use Rattle.text.specs.Characters.{bytes}
 use Rattle.text.specs.Order.{same_bytes}
 use Rattle.text.specs.Rules.{must}
@@ -8,8 +8,6 @@ use Rattle.place.specs.declared.Refusal.{Refusal}
 use Rattle.flow.specs.Letters.{P0133001, E533, E711}
 use Rattle.flow.specs.Publication.{Flow}
 use Rattle.flow.specs.Flows.{held, flow_at, flow_named, p0133_in_711}
-use Rattle.flow.specs.declared.Named.{Named}
-use Rattle.flow.specs.declared.Named.TheVariants as names
 
 -- the edition that is used where none is named
 unfoldable pub usual : List ℕ
@@ -52,6 +50,6 @@ asked words =
     (a_flow (flow_in (edition_in words) (name_in words))))
 
 -- what the code's answer says: a flow is told by its number
-abbrev pub told : Named → Asked
-told (names.Flow n) = a_flow (flow_at n)
-told (names.Refused r) = no_flow r
+abbrev pub told : Result ℕ Refusal → Asked
+told (Ok n) = a_flow (flow_at n)
+told (Err r) = no_flow r

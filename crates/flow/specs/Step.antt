@@ -1,10 +1,11 @@
 -- What the step of the flow table must answer, by the grammar alone (document 01, last lines of "Refusal numbers"). Assumes nothing.
-use Rattle.std.specs.Prelude.{ℕ, suc, ◌*◌, ◌≡◌, Bool, List, [], ◌∷◌, ◌++◌, length, drop}
+use Rattle.std.specs.Prelude.{ℕ, suc, ◌*◌, ◌≡◌, Bool, List, [], ◌∷◌, ◌++◌, length, drop, Result, Ok, Err}
 use Rattle.grammar.specs.Right.{Completes, StoppedRight, ThroughRight}
 use Rattle.flow.specs.Publication.{Flow, names}
 use Rattle.flow.specs.Editions.{Asked, a_flow, no_flow}
-use Rattle.flow.specs.declared.StepAnswer.{StepAnswer}
-use Rattle.flow.specs.declared.StepAnswer.TheVariants.{Refused, Stopped, Through}
+use Rattle.flow.specs.declared.Through.{Through}
+use Rattle.flow.specs.declared.NoStep.{NoStep}
+use Rattle.flow.specs.declared.NoStep.TheVariants.{Refused, Stopped}
 
 -- kinds, three bytes each, end to end; one that is cut short is a kind of its own, foreign to every flow
 unfoldable pub kinds_in : List ℕ → List (List ℕ)
@@ -51,18 +52,18 @@ pub data Reply : Type 0 where
   through : ℕ → Bool → Reply
 
 -- what each case of the code's answer says in the papers' terms
-abbrev pub paper : StepAnswer → Reply
-paper (Refused r) = refused r.number r.«record» r.field r.place
-paper (Stopped place) = stopped place
-paper (Through count complete) = through count complete
+abbrev pub paper : Result Through NoStep → Reply
+paper (Err (Refused r)) = refused r.number r.«record» r.field r.place
+paper (Err (Stopped place)) = stopped place
+paper (Ok t) = through t.count t.complete
 
 -- for what is asked an answer is right, and so are the bytes that were lent: a flow's own list of kinds is never refused
 abbrev pub ReplyRight : Asked → List ℕ → Reply → List ℕ → List ℕ → Type 0
 ReplyRight (a_flow fl) bytes (refused number r f at) old new = ⊥
 ReplyRight (a_flow fl) bytes (stopped place) old new = StoppedAt fl (kinds_in bytes) place old new
 ReplyRight (a_flow fl) bytes (through count complete) old new = WentThrough fl (kinds_in bytes) count complete old new
-ReplyRight (no_flow x) bytes reply old new = (reply ≡ paper (Refused x)) × (new ≡ old)
+ReplyRight (no_flow x) bytes reply old new = (reply ≡ paper (Err (Refused x))) × (new ≡ old)
 
 -- step the flow table through record kinds
-abbrev pub StepRight : Asked → List ℕ → StepAnswer → List ℕ → List ℕ → Type 0
+abbrev pub StepRight : Asked → List ℕ → Result Through NoStep → List ℕ → List ℕ → Type 0
 StepRight a bytes answer old new = ReplyRight a bytes (paper answer) old new

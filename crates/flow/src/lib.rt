@@ -3,7 +3,7 @@
 
 mod tables;
 
-ghost use Rattle.std.specs.Prelude.{◌≡◌, ℕ, ◌+◌, ◌*◌, ◌≤◌, List, length};
+ghost use Rattle.std.specs.Prelude.{◌≡◌, ℕ, ◌+◌, ◌*◌, ◌≤◌, ◌<◌, List, MatchOption, length};
 ghost use Rattle.text.specs.Rules.{must};
 ghost use Rattle.place.specs.Places.{whole};
 ghost use Rattle.layout.specs.Layout.{may_follow};
@@ -23,75 +23,61 @@ pub struct Table {
     pub fixed: [u8; 16],
 }
 
-// What a caller's words ask for: a flow, by its number, or a refusal.
-#[derive(Clone, Copy)]
-pub enum Named {
-    Flow(usize),
-    Refused(Refusal),
-}
-
 // The edition that is used where none is named.
 const USUAL: [u8; 3] = *b"533";
 
-// The number of the flow of this name, from 1; 0 where we hold none.
-fn number_of(name: &[u8]) -> usize
-    ensures { result ≡ flow_number name.now }
+// The number of the flow of this name, from 1. A `match` on the six names leaves a goal to prove for each of their bytes.
+fn number_of(name: &[u8]) -> Option<usize>
+    ensures { MatchOption result (flow_number name.now ≡ 0) (λ n. (n ≡ flow_number name.now) × (0 < n)) }
 {
     if text::same_bytes(b"P0012001", name) {
-        return 1;
+        return Some(1);
     }
     if text::same_bytes(b"P0181002", name) {
-        return 2;
+        return Some(2);
     }
     if text::same_bytes(b"P0133001", name) {
-        return 3;
+        return Some(3);
     }
     if text::same_bytes(b"P0134001", name) {
-        return 4;
+        return Some(4);
     }
     if text::same_bytes(b"P0138001", name) {
-        return 5;
+        return Some(5);
     }
     if text::same_bytes(b"P0164001", name) {
-        return 6;
+        return Some(6);
     }
-    0
+    None
 }
 
 // Flow number n in an edition: 21 where there is no such edition. Only P0133001, number 3, has a layout of its own in 711.
-fn in_edition(n: usize, edition: &[u8]) -> Named
+fn in_edition(n: usize, edition: &[u8]) -> Result<usize, Refusal>
     ensures { told result ≡ must (is_edition edition.now) (no_flow (whole 21)) (a_flow (flow_at (number_in edition.now n))) }
 {
-    if text::same_bytes(b"711", edition) {
-        if n == 3 {
-            return Named::Flow(7);
-        }
-        return Named::Flow(n);
+    match edition {
+        b"711" => Ok(if n == 3 { 7 } else { n }),
+        b"533" => Ok(n),
+        _ => Err(place::whole(21)),
     }
-    if text::same_bytes(b"533", edition) {
-        return Named::Flow(n);
-    }
-    Named::Refused(place::whole(21))
 }
 
-// What a caller's words ask for: a flow's name of eight characters, or these, a space and an edition. 1, then 21.
-pub fn find(words: &[u8]) -> Named
+// The number of the flow that a caller's words ask for: a flow's name of eight characters, or these, a space and an edition. 1, then 21.
+pub fn find(words: &[u8]) -> Result<usize, Refusal>
     ensures { told result ≡ asked words.now }
 {
     if words.len() < 8 {
-        return Named::Refused(place::whole(1));
+        return Err(place::whole(1));
     }
-    let n = number_of(&words[..8]);
-    if n == 0 {
-        return Named::Refused(place::whole(1));
+    let (name, behind) = words.split_at(8);
+    let Some(n) = number_of(name) else {
+        return Err(place::whole(1));
+    };
+    match behind {
+        [] => in_edition(n, &USUAL),
+        [b' ', edition @ ..] => in_edition(n, edition),
+        _ => Err(place::whole(1)),
     }
-    if words.len() == 8 {
-        return in_edition(n, &USUAL);
-    }
-    if words[8] != b' ' {
-        return Named::Refused(place::whole(1));
-    }
-    in_edition(n, &words[9..])
 }
 
 // P0133001 in edition 711: SB1 has the rules of 533 from the second on, that is all but the market sector's.
@@ -107,7 +93,7 @@ fn p0133_in_711() -> Table
     }
 }
 
-// The table of flow number n.
+// The table of flow number n; any number has one, so that a flow is no enum.
 pub fn table_of(n: usize) -> Table
     ensures { layout_of result.numbers result.fixed ≡ layout_for (flow_at n) }
 {
@@ -140,37 +126,20 @@ pub fn table_of(n: usize) -> Table
     }
 }
 
-// Where a walk of a list of kinds by a table came to: the place where it stopped, counted from 1, or the last row.
-#[derive(Clone, Copy)]
-enum Walked {
-    Stopped(usize),
-    Through(usize),
-}
-
-// Walks a list of kinds, three bytes each, by a table's followers. A kind cut short is no kind's name.
-fn walk(t: &[u32], kinds: &[u8]) -> Walked
+// Walks a list of kinds, three bytes each, by a table's followers: to the last row, or to the place, from 1, where it stopped. A kind cut
+// short is no kind's name.
+fn walk(t: &[u32], kinds: &[u8]) -> Result<usize, usize>
     ensures { (fixed : List ℕ) → result ≡ walk_by (layout_of t.now fixed) (kinds_in kinds.now) }
 {
     let mut last = 0;
-    let mut passed = 0;
-    let mut a = 0;
-    while a < kinds.len() {
-        if kinds.len() - a < 3 {
-            return Walked::Stopped(passed + 1);
-        }
-        let e = a + 3;
-        let k = layout::kind_named(t, &kinds[a..e]);
-        if k == 0 {
-            return Walked::Stopped(passed + 1);
-        }
-        if !layout::may_follow(t, last, k) {
-            return Walked::Stopped(passed + 1);
+    for passed in 0..kinds.len().div_ceil(3) {
+        let k = layout::kind_named(t, text::part(kinds, 3 * passed, 3));
+        if k == 0 || !layout::may_follow(t, last, k) {
+            return Err(passed + 1);
         }
         last = k;
-        passed += 1;
-        a = e;
     }
-    Walked::Through(last)
+    Ok(last)
 }
 
 // Where kind k may follow kind last, writes its name behind the names written so far, and counts it.
@@ -194,50 +163,54 @@ fn put_followers(t: &[u32], last: usize, out: &mut [u8]) -> usize
     requires { 96 ≤ length out.old }
     ensures { (fixed : List ℕ) → Lists (followers_by (layout_of t.now fixed) last) result out.old out.new }
 {
-    let rows = layout::row_count(t);
     let mut count = 0;
-    let mut k = 1;
-    while k < rows {
+    for k in 1..layout::row_count(t) {
         count = put_follower(t, last, k, count, out);
-        k += 1;
     }
     count
 }
 
-// The step's answer: a refusal; the place, from 1, where the list stopped; or how many kinds may follow and if it is complete.
-#[derive(Clone, Copy)]
-pub enum StepAnswer {
+// A list of kinds that went through: how many kinds may follow, and if it is complete.
+#[derive(Clone, Copy, PartialEq, Eq)]
+pub struct Through {
+    pub count: usize,
+    pub complete: bool,
+}
+
+// Why a list of kinds did not go through: what was asked for is refused, or the list stopped at a place, from 1.
+#[derive(Clone, Copy, PartialEq, Eq)]
+pub enum NoStep {
     Refused(Refusal),
     Stopped(usize),
-    Through { count: usize, complete: bool },
+}
+
+impl From<Refusal> for NoStep {
+    ghost use Rattle.flow.specs.declared.NoStep.TheVariants.{Refused};
+
+    ghost from_gives = { λ refusal answer. answer ≡ Refused refusal };
+
+    fn from(refusal: Refusal) -> NoStep {
+        NoStep::Refused(refusal)
+    }
 }
 
 // Steps a table through kinds, three bytes each, end to end. The names of the kinds that may follow go to the front of the
 // lent bytes, which have room for the most kinds that a table can hold.
-fn step_by(t: &[u32], kinds: &[u8], follow: &mut [u8; 96]) -> StepAnswer
+fn step_by(t: &[u32], kinds: &[u8], follow: &mut [u8; 96]) -> Result<Through, usize>
     ensures { (fixed : List ℕ) → SteppedBy (layout_of t.now fixed) kinds.now result follow.old follow.new }
 {
-    match walk(t, kinds) {
-        Walked::Stopped(place) => StepAnswer::Stopped(place),
-        Walked::Through(last) => {
-            let count = put_followers(t, last, follow);
-            StepAnswer::Through {
-                count,
-                complete: layout::is_footer(t, last),
-            }
-        }
-    }
+    let last = walk(t, kinds)?;
+    let count = put_followers(t, last, follow);
+    Ok(Through {
+        count,
+        complete: layout::is_footer(t, last),
+    })
 }
 
 // Steps the table of the flow that the words ask for. Any words, any kinds.
-pub fn step(flow: &[u8], kinds: &[u8], follow: &mut [u8; 96]) -> StepAnswer
+pub fn step(flow: &[u8], kinds: &[u8], follow: &mut [u8; 96]) -> Result<Through, NoStep>
     ensures { StepRight (asked flow.now) kinds.now result follow.old follow.new }
 {
-    match find(flow) {
-        Named::Refused(refusal) => StepAnswer::Refused(refusal),
-        Named::Flow(n) => {
-            let t = table_of(n).numbers;
-            step_by(&t, kinds, follow)
-        }
-    }
+    let t = table_of(find(flow)?).numbers;
+    step_by(&t, kinds, follow).map_err(NoStep::Stopped)
 }

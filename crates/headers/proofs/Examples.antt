@@ -12,8 +12,9 @@ use Rattle.headers.specs.declared.Ask.{Ask}
 use Rattle.headers.specs.declared.Ask.TheVariants.{Judge, Value, Period, Field, Sum, Step, Make, Index}
 use Rattle.headers.specs.declared.Making.TheVariants.{Write, Read, Export, Import}
 use Rattle.headers.specs.declared.Fault.TheVariants as faults
-use Rattle.headers.specs.declared.Header.{Header}
-use Rattle.headers.specs.declared.Header.TheVariants.{Of, Bad}
+use Rattle.headers.specs.declared.Case.{Case}
+use Rattle.headers.specs.declared.Fault.{Fault}
+use Rattle.std.specs.Prelude.{Result, Ok, Err}
 
 -- words with a tab between each two
 abbrev tabbed : List (List ℕ) → List ℕ
@@ -21,8 +22,8 @@ tabbed [] = []
 tabbed (w ∷ []) = w
 tabbed (w ∷ v ∷ ws) = w ++ 0x09 ∷ tabbed (v ∷ ws)
 
-abbrev said : Ask → ℕ → ℕ → Header
-said ask fixed length = Of (record { ask = ask; fixed = fixed; length = length })
+abbrev said : Ask → ℕ → ℕ → Result Case Fault
+said ask fixed length = Ok (record { ask = ask; fixed = fixed; length = length })
 
 abbrev P0138001 : List ℕ
 P0138001 = bytes "P0138001"
@@ -43,18 +44,18 @@ unfolding header_of case_named room_named plain_of value_of period_of field_of m
 cases_said = (refl, refl, refl, refl, refl, refl, refl, refl, refl, refl, refl)
 
 -- a header with each fault
-pub faults_said : (header_of (tabbed (bytes "judge" ∷ P0138001 ∷ (bytes "88" ++ 0x0D ∷ []) ∷ [])) ≡ Bad faults.CarriageReturn)
-    × (header_of (tabbed (bytes "judged" ∷ P0138001 ∷ bytes "88" ∷ [])) ≡ Bad faults.NoCase) × (header_of [] ≡ Bad faults.NoCase)
-    × (header_of (tabbed (bytes "judge" ∷ bytes "88" ∷ [])) ≡ Bad (faults.Words 3 2))
-    × (header_of (tabbed (bytes "import" ∷ P0138001 ∷ bytes "100" ∷ bytes "75" ∷ [])) ≡ Bad (faults.Words 3 4))
-    × (header_of (tabbed (bytes "value" ∷ P0138001 ∷ bytes "1000000001" ∷ bytes "x" ∷ bytes "88" ∷ [])) ≡ Bad faults.Record)
-    × (header_of (tabbed (bytes "value" ∷ P0138001 ∷ bytes "1" ∷ bytes "00000000001" ∷ bytes "88" ∷ [])) ≡ Bad faults.Field)
-    × (header_of (tabbed (bytes "period" ∷ bytes "P0012001" ∷ bytes "-1" ∷ bytes "x" ∷ [])) ≡ Bad faults.Period)
-    × (header_of (tabbed (bytes "field" ∷ bytes "text" ∷ bytes "?" ∷ bytes "0" ∷ bytes "6" ∷ [])) ≡ Bad faults.Type)
-    × (header_of (tabbed (bytes "field" ∷ bytes "bol" ∷ bytes "?" ∷ bytes "x" ∷ bytes "6" ∷ [])) ≡ Bad faults.Mark)
-    × (header_of (tabbed (bytes "field" ∷ bytes "bol" ∷ bytes "opt" ∷ bytes "-1" ∷ bytes "x" ∷ [])) ≡ Bad faults.Fixed)
-    × (header_of (tabbed (bytes "write" ∷ P0138001 ∷ bytes "1114113" ∷ bytes "x" ∷ [])) ≡ Bad faults.Room)
-    × (header_of (tabbed (bytes "index" ∷ P0138001 ∷ bytes "8193" ∷ bytes "88" ∷ [])) ≡ Bad faults.Entries)
-    × (header_of (tabbed (bytes "sum" ∷ [] ∷ [])) ≡ Bad faults.Length)
+pub faults_said : (header_of (tabbed (bytes "judge" ∷ P0138001 ∷ (bytes "88" ++ 0x0D ∷ []) ∷ [])) ≡ Err faults.CarriageReturn)
+    × (header_of (tabbed (bytes "judged" ∷ P0138001 ∷ bytes "88" ∷ [])) ≡ Err faults.NoCase) × (header_of [] ≡ Err faults.NoCase)
+    × (header_of (tabbed (bytes "judge" ∷ bytes "88" ∷ [])) ≡ Err (faults.Words 3 2))
+    × (header_of (tabbed (bytes "import" ∷ P0138001 ∷ bytes "100" ∷ bytes "75" ∷ [])) ≡ Err (faults.Words 3 4))
+    × (header_of (tabbed (bytes "value" ∷ P0138001 ∷ bytes "1000000001" ∷ bytes "x" ∷ bytes "88" ∷ [])) ≡ Err faults.Record)
+    × (header_of (tabbed (bytes "value" ∷ P0138001 ∷ bytes "1" ∷ bytes "00000000001" ∷ bytes "88" ∷ [])) ≡ Err faults.Field)
+    × (header_of (tabbed (bytes "period" ∷ bytes "P0012001" ∷ bytes "-1" ∷ bytes "x" ∷ [])) ≡ Err faults.Period)
+    × (header_of (tabbed (bytes "field" ∷ bytes "text" ∷ bytes "?" ∷ bytes "0" ∷ bytes "6" ∷ [])) ≡ Err faults.Type)
+    × (header_of (tabbed (bytes "field" ∷ bytes "bol" ∷ bytes "?" ∷ bytes "x" ∷ bytes "6" ∷ [])) ≡ Err faults.Mark)
+    × (header_of (tabbed (bytes "field" ∷ bytes "bol" ∷ bytes "opt" ∷ bytes "-1" ∷ bytes "x" ∷ [])) ≡ Err faults.Fixed)
+    × (header_of (tabbed (bytes "write" ∷ P0138001 ∷ bytes "1114113" ∷ bytes "x" ∷ [])) ≡ Err faults.Room)
+    × (header_of (tabbed (bytes "index" ∷ P0138001 ∷ bytes "8193" ∷ bytes "88" ∷ [])) ≡ Err faults.Entries)
+    × (header_of (tabbed (bytes "sum" ∷ [] ∷ [])) ≡ Err faults.Length)
 unfolding header_of case_named room_named plain_of value_of period_of field_of making_of index_of ends_in form_of wide_of dec_of bracketed mark_of number_of is_number is_digit fields onto field
 faults_said = (refl, refl, refl, refl, refl, refl, refl, refl, refl, refl, refl, refl, refl, refl)

@@ -1,35 +1,22 @@
 -- What a filling of cells leaves, over plain variables: entries put one by one are the first n entries as numbers and then what was there, and those are what CellsRight promises. Assumes nothing.
-use mathlib.Core.Path.{◌≡◌, refl, sym, ◌∙◌, ap, subst}
-use Prim.Native.Nat.{ℕ, suc, ◌+◌, ◌*◌, ◌/◌, ◌≤◌, ◌<◌}
+use mathlib.Core.Path.{◌≡◌, refl, sym, ◌∙◌, ap}
+use Prim.Native.Nat.{ℕ, zero, suc, ◌+◌, ◌*◌, ◌/◌, ◌≤◌, ◌<◌}
 use native.Mathlib.Nat.{mul-div-le}
 use native.Mathlib.Numerals.{add-one}
 use native.Mathlib.Omega.{arith}
 use mathlib.Core.List.{List, [], ◌∷◌, ◌++◌}
-use lib.ListN.{length, take, drop, set, length-append, length-drop}
-use lib.Seq.{sets-eq, take-suc, length-take-le, take_at, drop_at, drop-drop}
+use lib.ListN.{length, take, drop, length-append, length-drop}
+use lib.Seq.{take-suc, length-take-le, take_at, drop_at, drop-drop}
+use Rattle.std.specs.Prelude.{Result, Ok, Err}
 use Rattle.place.specs.declared.Refusal.{Refusal}
-use Rattle.layout.specs.Layout.{Layout}
-use Rattle.layout.specs.Numbers.{layout_of}
-use Rattle.flow.specs.Publication.{Flow, layout_for}
-use Rattle.flow.specs.Editions.{Asked, a_flow, no_flow}
-use Rattle.judge.specs.File.{judged_for}
+use Rattle.flow.specs.Editions.{Asked}
 use Rattle.index.specs.declared.Entry.{Entry}
-use Rattle.index.specs.declared.Begun.{Begun}
-use Rattle.index.specs.declared.Indexed.{Indexed}
-use Rattle.index.specs.declared.Indexed.TheVariants.{Filled, Refused}
-use Rattle.index.specs.Entries.{entries_of, indexed_by, entries_by, answer_by, paper, indexed, numbers_of, cells_of, cells_by, CellsRight}
-use Rattle.index.specs.Code.{blank, entry_at, kinds_in, to_store, begun_by, stored_cells, CellsFilled}
-use Rattle.index.proofs.Tables.{unfixed}
-use Rattle.index.proofs.Stored.{promised, Agrees, agreed_by}
-
--- ---- an entry is put by four stores, which are the run of stores of its numbers
-pub put_four : (l : List ℕ) (at : ℕ) (e : Entry) → at + 4 ≤ length l
-    → set (set (set (set l at e.«record») (at + 1) e.place) (at + 2) e.parent) (at + 3) e.children ≡ take at l ++ numbers_of e ++ drop (at + 4) l
-put_four l at e h =
-    let x : at + 1 ≡ suc at = omega arith in
-    let y : at + 2 ≡ suc (suc at) = omega arith in
-    let z : at + 3 ≡ suc (suc (suc at)) = omega arith in
-    rw (x, y, z) (sets-eq (numbers_of e) l at h)
+use Rattle.index.specs.declared.Filled.{Filled}
+use Rattle.index.specs.Entries.{Kinds, entries_of, entries_for, answer_for, paper, indexed, numbers_of, cells_of, cells_by, CellsRight}
+use Rattle.index.specs.Code.{blank, entry_at, kinds_in, to_store, stored_cells, with_numbers, read, storing, FilledBy}
+use Rattle.index.proofs.Tables.{few_kinds}
+use Rattle.index.proofs.Reading.{entry_read}
+use Rattle.index.proofs.Stored.{promised, promised_asked, all_agree}
 
 -- ---- entries put one by one: each takes four cells, so that i of them end at cell 4 * i
 cells_long : (es : List Entry) → length (cells_of es) ≡ 4 * length es
@@ -73,36 +60,36 @@ module _ (es : List Entry) (i : ℕ) (there : i ≤ length es) (old new : List �
       let z : 4 * i + 4 ≡ 4 * (i + 1) = omega arith in
       (λ j. before j ++ numbers_of (at-seam j) ++ behind j) ∙ (λ j. sym (one_more_lem h) j ++ drop (z j) old)
 
--- ---- what `fill_cells_by` shows of the number that `begin_by` gave, and what it makes of the cells that `put_first` left
-cells_made : (said : Indexed) (es : List Entry) (old : List ℕ) → cells_of (promised said es) ++ drop (4 * to_store said) old ≡ cells_by said es old
+-- the cells after n entries, one after the other
+pub cells_stored : (ks : Kinds) (f : List ℕ) → length ks.names ≤ 32 → (n : ℕ) (old : List ℕ) → 4 * n ≤ length old → n ≤ length (entries_of ks f)
+    → storing with_numbers (read ks f) n old ≡ stored_cells ks f n old
+cells_stored ks f few zero old h g = none_put (entries_of ks f) old
+cells_stored ks f few (suc n) old h g =
+    let es = entries_of ks f in
+    let there : n ≤ length es = omega (arith, g) in
+    let before = cells_stored ks f few n old (omega (arith, h)) there in
+    one_put es n there old (storing with_numbers (read ks f) n old) before (read ks f n) (entry_read ks f few n g) g
+    ∙ ap (λ (m : ℕ). stored_cells ks f m old) (add-one n)
+
+-- ---- what `fill_cells` shows of the number that `begin` gave, and what it makes of the cells that were put
+cells_made : (said : Result Filled Refusal) (es : List Entry) (old : List ℕ) → cells_of (promised said es) ++ drop (4 * to_store said) old ≡ cells_by said es old
 unfolding cells_of cells_by
-cells_made (Refused r) es old = refl
-cells_made (Filled n m) es old = refl
+cells_made (Err r) es old = refl
+cells_made (Ok said) es old = refl
 
-module _ (t fixed f old : List ℕ) (b : Begun) (is : b ≡ begun_by (layout_of t fixed) f (length old / 4)) where
-  all_agree : Agrees (entries_of (kinds_in t) f) (length old / 4) b
-  all_agree = agreed_by t fixed f (length old / 4) b is
-
-  pub cells_fit : (4 * b.count ≤ length old) × b.count ≤ length (entries_of (kinds_in t) f)
-  cells_fit = (omega (arith, all_agree.fits, mul-div-le (length old) 4), all_agree.there)
-
-  pub cells_filled : (new : List ℕ) → new ≡ stored_cells (kinds_in t) f b.count old → CellsFilled (layout_of t fixed) f old new b.answer
-  cells_filled new left = record {
-    says = ap (λ (c : Begun). c.answer) is;
-    holds = left
-        ∙ ap (λ (es : List Entry). cells_of es ++ drop (4 * b.count) old) all_agree.makes
-        ∙ (λ i. cells_of (promised (is i).answer (entries_of (unfixed t fixed i) f)) ++ drop (4 * (is i).count) old)
-        ∙ cells_made (answer_by (layout_of t fixed) f (length old / 4)) (entries_by (layout_of t fixed) f) old;
-  }
-
--- ---- what `fill_cells` says of a refusal of the words, and of what was filled by their flow's table
-module _ (a : Asked) (f old : List ℕ) where
-  pub no_cells : (r : Refusal) → no_flow r ≡ a → CellsRight a f old old (Refused r)
-  unfolding indexed indexed_by judged_for cells_by
-  no_cells r e = subst (λ (x : Asked). CellsRight x f old old (Refused r)) e (record { says = refl; holds = refl })
-
-  pub cells_right : (fl : Flow) → a_flow fl ≡ a → (l : Layout) → l ≡ layout_for fl → (new : List ℕ) (said : Indexed) → CellsFilled l f old new said → CellsRight a f old new said
-  unfolding indexed judged_for
-  cells_right fl e l is new said w =
-      let right = subst (λ (x : Layout). CellsFilled x f old new said) is w in
-      subst (λ (x : Asked). CellsRight x f old new said) e (record { says = ap paper right.says; holds = right.holds })
+-- so cells that were filled one entry after the other are right
+pub cells_right : (a : Asked) (f old new : List ℕ) (b : Result Filled Refusal) → FilledBy (λ (s : List ℕ). length s / 4) with_numbers a f old new b → CellsRight a f old new b
+unfolding indexed
+cells_right a f old new b w =
+    let ks = kinds_in w.numbers in
+    let room = length old / 4 in
+    let agree = all_agree a f room b w.says ks w.kinds in
+    record {
+      says = ap paper w.says;
+      holds = w.holds
+          ∙ cells_stored ks f (few_kinds w.numbers) (to_store b) old (omega (arith, agree.fits, mul-div-le (length old) 4)) agree.there
+          ∙ ap (λ (es : List Entry). cells_of es ++ drop (4 * to_store b) old) agree.makes
+          ∙ (λ i. cells_of (promised (w.says i) (entries_of ks f)) ++ drop (4 * to_store (w.says i)) old)
+          ∙ ap (λ (es : List Entry). cells_of es ++ drop (4 * to_store (answer_for a f room)) old) (promised_asked f room ks a w.kinds)
+          ∙ cells_made (answer_for a f room) (entries_for a f) old;
+    }

@@ -1,8 +1,8 @@
 -- The parent entry by the last entries of each kind. Assumes nothing.
-use Prim.Native.Nat.{ℕ, ◌≤◌}
+use Prim.Native.Nat.{ℕ}
 use mathlib.Core.Path.{◌≡◌}
 use mathlib.Core.List.{List}
-use lib.ListN.{length, get_or, get_or-eq_default}
+use lib.ListN.{get_or}
 use borrow.Author.Tests.{eq-eqb, ne_eqb}
 use Rattle.index.specs.Code.{parent_in}
 
@@ -10,9 +10,6 @@ module _ (last : List ℕ) (h own : ℕ) where
   pub no_entry : get_or last h 0 ≡ 0 → own ≡ parent_in last h own
   unfolding parent_in
   no_entry e = rw (eq-eqb (get_or last h 0) 0 e)
-
-  pub past_kinds : length last ≤ h → own ≡ parent_in last h own
-  past_kinds e = no_entry (get_or-eq_default last 0 {n = h} e)
 
   pub an_entry : (get_or last h 0 ≡ 0 → ⊥) → get_or last h 0 ≡ parent_in last h own
   unfolding parent_in

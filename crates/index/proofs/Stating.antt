@@ -1,55 +1,21 @@
--- The parts of a state: the list of 33 kinds, filled from its start, and a state with a record entered. Assumes nothing.
-use Prim.Native.Nat.{ℕ, zero, suc, ◌+◌, ◌-◌, ◌<◌, ◌≤◌}
+-- The parts of a state: the list of 33 kinds, and a state with a record entered. Assumes nothing.
+use Prim.Native.Nat.{ℕ, ◌+◌, ◌-◌, ◌<◌, ◌≤◌}
 use mathlib.Core.Path.{◌≡◌, sym, ap, ◌∙◌}
 use mathlib.Core.Bool.{Bool, false}
-use mathlib.Core.List.{List, [], ◌∷◌, ◌++◌, append-nil}
+use mathlib.Core.List.{List}
 use native.Mathlib.Omega.{arith}
-use lib.ListN.{length, set, replicate}
-use lib.Seq.{set-append_seam, append_snoc}
+use lib.ListN.{length, get_or, set, replicate}
+use Rattle.std.proofs.lemmas.List.{ext_get_or}
 use Rattle.layout.specs.Numbers.{each}
-use Rattle.layout.proofs.Each.{each_length}
+use Rattle.layout.proofs.Each.{each_length, each_at}
 use Rattle.index.specs.declared.Entry.{Entry}
 use Rattle.index.specs.declared.Filling.{Filling}
 use Rattle.index.specs.Entries.{Kinds, head_of, entry}
 use Rattle.index.specs.Code.{parent_in, entered, heads_of, starting, blank}
 
-module _ (g : ℕ → Bool) where
-  each_snoc : (i n : ℕ) → each g i (suc n) ≡ each g i n ++ g (i + n) ∷ []
-  unfolding each
-  each_snoc i zero =
-      let e : i ≡ i + 0 = omega arith in
-      ap (λ (k : ℕ). g k ∷ []) e
-  each_snoc i (suc n) =
-      let e : suc i + n ≡ i + suc n = omega arith in
-      ap (λ (bs : List Bool). g i ∷ bs) (each_snoc (suc i) n ∙ ap (λ (k : ℕ). each g (suc i) n ++ g k ∷ []) e)
-
-  -- the first k of so many, and no for the others
-  abbrev pub firsts : ℕ → ℕ → List Bool
-  firsts size k = each g 0 k ++ replicate (size - k) false
-
-  pub first_none : (size : ℕ) → replicate size false ≡ firsts size 0
-  unfolding each
-  first_none size =
-      let e : size ≡ size - 0 = omega arith in
-      ap (λ (n : ℕ). replicate n false) e
-
-  pub first_more : (size k : ℕ) → k < size → set (firsts size k) k (g k) ≡ firsts size (k + 1)
-  first_more size k h =
-      let left : size - k ≡ suc (size - (k + 1)) = omega (arith, h) in
-      let here : k ≡ length (each g 0 k) = sym (each_length g 0 k) in
-      let next : suc k ≡ k + 1 = omega arith in
-      let same : 0 + k ≡ k = omega arith in
-      ap (λ (n : ℕ). set (each g 0 k ++ replicate n false) k (g k)) left
-      ∙ ap (λ (i : ℕ). set (each g 0 k ++ false ∷ replicate (size - (k + 1)) false) i (g k)) here
-      ∙ set-append_seam (each g 0 k) false (replicate (size - (k + 1)) false) (g k)
-      ∙ sym (append_snoc (each g 0 k) (g k) (replicate (size - (k + 1)) false))
-      ∙ ap (λ (i : ℕ). (each g 0 k ++ g i ∷ []) ++ replicate (size - (k + 1)) false) (sym same)
-      ∙ ap (λ (bs : List Bool). bs ++ replicate (size - (k + 1)) false) (sym (each_snoc 0 k) ∙ ap (each g 0) next)
-
-  pub first_all : (size k : ℕ) → k ≡ size → firsts size k ≡ each g 0 size
-  first_all size k e =
-      let none : size - k ≡ 0 = omega (arith, e) in
-      ap (λ (n : ℕ). each g 0 k ++ replicate n false) none ∙ append-nil (each g 0 k) ∙ ap (each g 0) e
+-- a list with these values is the list of them
+pub each_is : (g : ℕ → Bool) (bs : List Bool) (n : ℕ) → length bs ≡ n → ((k : ℕ) → k < n → get_or bs k false ≡ g k) → bs ≡ each g 0 n
+each_is g bs n long at = ext_get_or false bs (each g 0 n) (long ∙ sym (each_length g 0 n)) (λ k h. at k (omega (arith, long)) ∙ sym (each_at g false n k (omega (arith, long))))
 
 -- a state of these parts
 abbrev of : ℕ → ℕ → ℕ → List Bool → List ℕ → Entry → Filling

@@ -1,13 +1,16 @@
 -- The kinds that an index goes by are those of the table that is lent: fixed values have no part in them. Assumes nothing.
-use Prim.Native.Nat.{ℕ, zero, suc, ◌+◌, ◌≤◌, ◌<◌}
+use Prim.Native.Nat.{ℕ, zero, suc, ◌+◌, ◌≤◌}
 use mathlib.Core.Path.{◌≡◌, refl, sym, ap, ◌∙◌, subst}
-use mathlib.Core.Bool.{Bool, true, false}
+use mathlib.Core.Bool.{Bool, false, ◌||◌}
 use mathlib.Core.List.{List, [], ◌∷◌, map}
 use native.Mathlib.Omega.{arith}
 use lib.ListN.{length, get_or, drop, length-map, length-drop, drop_of_length-le, get_or-map}
 use lib.Seq.{drop-cons}
 use native.Mathlib.Numerals.{add-one}
-use borrow.Author.Tests.{le-leb, lt-leb, eq-eqb, ne_eqb}
+use lib.Dec.{eqb}
+use Rattle.std.proofs.Common.{nat_eq}
+use Rattle.std.specs.List.{list_any, range_with_len}
+use borrow.Author.Tests.{le-leb, lt-leb}
 use Rattle.record.specs.Records.{bar}
 use Rattle.layout.specs.Layout.{KindRow, row, blank, find}
 use Rattle.layout.specs.Numbers.{each, row_of, row_count, layout_of}
@@ -85,21 +88,18 @@ module _ (ks : Kinds) (k : ℕ) where
   unfolding may_head
   none_within_nothing e = rw (lt-leb 1 k (omega (arith, e)))
 
-  pub all_asked : 1 ≤ k → may_head ks k ≡ some_is k (drop 0 ks.heads)
-  unfolding may_head
-  all_asked h = rw (le-leb 1 k h)
+  -- some of n heads from i on is k, however a head is read
+  module _ (head : ℕ → ℕ) (is : (j : ℕ) → head j ≡ head_of ks j) where
+    heads_from : (i n : ℕ) → i + n ≡ length ks.heads → list_any (λ j. nat_eq (head j) k) (range_with_len i n) ≡ some_is k (drop i ks.heads)
+    unfolding some_is
+    heads_from i zero e = rw (drop_of_length-le ks.heads {i = i} (omega (arith, e))) refl
+    heads_from i (suc n) e =
+        rw (drop-cons ks.heads i 0 (omega (arith, e)))
+        (λ j. eqb (is i j) k || (heads_from (i + 1) n (omega (arith, e)) ∙ ap (λ (m : ℕ). some_is k (drop m ks.heads)) (add-one i)) j)
 
-  pub within_found : (j : ℕ) → j < length ks.heads → head_of ks j ≡ k → some_is k (drop j ks.heads) ≡ true
-  unfolding some_is
-  within_found j h e = rw (drop-cons ks.heads j 0 h, eq-eqb (head_of ks j) k e)
-
-  pub not_within : (j : ℕ) → j < length ks.heads → (head_of ks j ≡ k → ⊥) → some_is k (drop j ks.heads) ≡ some_is k (drop (j + 1) ks.heads)
-  unfolding some_is
-  not_within j h e = rw (drop-cons ks.heads j 0 h, ne_eqb (head_of ks j) k e, add-one)
-
-  pub none_asked : (j : ℕ) → length ks.heads ≤ j → some_is k (drop j ks.heads) ≡ false
-  unfolding some_is
-  none_asked j h = rw (drop_of_length-le ks.heads {i = j} h)
+    pub some_within : 1 ≤ k → (n : ℕ) → n ≡ length ks.heads → list_any (λ j. nat_eq (head j) k) (range_with_len 0 n) ≡ may_head ks k
+    unfolding may_head
+    some_within h n e = rw (le-leb 1 k h) (heads_from 0 n (omega (arith, e)))
 
 -- the list of the kinds that may have children, at one of them
 pub head_listed : (ks : Kinds) (heads : List Bool) (k : ℕ) → heads ≡ heads_of ks → k ≤ 32 → get_or heads k false ≡ may_head ks k

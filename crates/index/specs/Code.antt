@@ -1,15 +1,13 @@
 -- What the code's inner functions do: a file is read on from entry to entry. Assumes nothing.
-use Rattle.std.specs.Prelude.{ℕ, zero, suc, ◌+◌, ◌*◌, ◌/◌, ◌≡◌, Bool, false, cond, List, [], ◌∷◌, ◌++◌, map, eqb, length, get_or, take, drop, set, replicate}
+use Rattle.std.specs.Prelude.{ℕ, zero, suc, ◌+◌, ◌*◌, ◌≡◌, Bool, false, cond, List, [], ◌∷◌, ◌++◌, map, eqb, length, get_or, take, drop, set, replicate, Result, Ok, Err}
 use Rattle.record.specs.Records.{records}
-use Rattle.layout.specs.Layout.{Layout}
+use Rattle.place.specs.declared.Refusal.{Refusal}
 use Rattle.layout.specs.Numbers.{each, layout_of}
 use Rattle.flow.specs.Editions.{Asked, a_flow, no_flow}
 use Rattle.index.specs.declared.Entry.{Entry}
-use Rattle.index.specs.declared.Indexed.{Indexed}
-use Rattle.index.specs.declared.Indexed.TheVariants.{Filled, Refused}
-use Rattle.index.specs.declared.Begun.{Begun}
+use Rattle.index.specs.declared.Filled.{Filled}
 use Rattle.index.specs.declared.Filling.{Filling}
-use Rattle.index.specs.Entries.{Kinds, kinds_by, kinds_for, kind_in, head_of, may_head, entry, entries_of, entries_by, answer_by, answer_for, cells_of, cells_by}
+use Rattle.index.specs.Entries.{Kinds, kinds_by, kinds_for, kind_in, head_of, may_head, entry, entries_of, answer_for, numbers_of, cells_of}
 
 -- no entry
 abbrev pub blank : Entry
@@ -69,20 +67,10 @@ unfoldable pub after : Kinds → List ℕ → ℕ → Filling
 after ks f zero = starting ks
 after ks f (suc i) = advanced ks f (after ks f i)
 
--- what is to be said, and how many entries are to be stored: none where what is asked, the file or the list is refused
-abbrev pub to_store : Indexed → ℕ
-to_store (Refused r) = 0
-to_store (Filled n m) = m
-
-abbrev pub giving : Indexed → Begun
-giving said = record { answer = said; count = to_store said }
-
--- for a file and so much room, by a layout, and for what is asked
-abbrev pub begun_by : Layout → List ℕ → ℕ → Begun
-begun_by l f room = giving (answer_by l f room)
-
-abbrev pub begun : Asked → List ℕ → ℕ → Begun
-begun a f room = giving (answer_for a f room)
+-- how many entries are to be stored: none where what is asked, the file or the list is refused
+abbrev pub to_store : Result Filled Refusal → ℕ
+to_store (Err r) = 0
+to_store (Ok said) = said.entries
 
 -- some kinds are those of the flow that is asked for, where one is
 abbrev pub HasKinds : Asked → Kinds → Type 0
@@ -97,7 +85,22 @@ stored ks f n old = take n (entries_of ks f) ++ drop n old
 abbrev pub stored_cells : Kinds → List ℕ → ℕ → List ℕ → List ℕ
 stored_cells ks f n old = cells_of (take n (entries_of ks f)) ++ drop (4 * n) old
 
--- numbers filled by a layout: what is said, and what they hold at the end
-pub record CellsFilled (l : Layout) (f old new : List ℕ) (said : Indexed) : Type 0 where
-  pub says : said ≡ answer_by l f (length old / 4)
-  pub holds : new ≡ cells_by (answer_by l f (length old / 4)) (entries_by l f) old
+-- the entry that is read at turn k, counted from 0
+abbrev pub read : Kinds → List ℕ → ℕ → Entry
+read ks f k = (after ks f (suc k)).entry
+
+-- entry i as numbers in a list of numbers
+abbrev pub with_numbers : List ℕ → ℕ → Entry → List ℕ
+with_numbers s i e = take (4 * i) s ++ numbers_of e ++ drop (4 * i + 4) s
+
+-- what a list of any sort holds once n entries have been put into it, one after the other, by what putting one makes
+abbrev pub storing : {A : Type 0} → (List A → ℕ → Entry → List A) → (ℕ → Entry) → ℕ → List A → List A
+storing with_entry e zero s = s
+storing with_entry e (suc n) s = with_entry (storing with_entry e n s) n (e n)
+
+-- a list of any sort is filled: what is said, and the entries put by the numbers of a table that has the flow's kinds
+pub record FilledBy {A : Type 0} (room : List A → ℕ) (with_entry : List A → ℕ → Entry → List A) (a : Asked) (f : List ℕ) (old new : List A) (said : Result Filled Refusal) : Type 0 where
+  pub numbers : List ℕ
+  pub kinds : HasKinds a (kinds_in numbers)
+  pub says : said ≡ answer_for a f (room old)
+  pub holds : new ≡ storing with_entry (read (kinds_in numbers) f) (to_store said) old

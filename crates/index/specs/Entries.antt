@@ -1,18 +1,16 @@
 -- An index beside the file: an entry for each record that may have children (document 02, C-13 and C-16). Assumes nothing.
-use Rattle.std.specs.Prelude.{ℕ, ◌+◌, ◌*◌, ◌/◌, ◌≡◌, Bool, false, cond, ◌&&◌, ◌||◌, List, [], ◌∷◌, ◌++◌, map, eqb, leb, length, get_or, take, drop}
+use Rattle.std.specs.Prelude.{ℕ, ◌+◌, ◌*◌, ◌/◌, ◌≡◌, Bool, false, cond, ◌&&◌, ◌||◌, List, [], ◌∷◌, ◌++◌, map, eqb, leb, length, get_or, take, drop, Result, Ok, Err}
 use Rattle.text.specs.Rules.{must}
 use Rattle.text.specs.Places.{place_of}
 use Rattle.record.specs.Records.{records, field, bar}
 use Rattle.place.specs.Places.{place_at, whole}
+use Rattle.place.specs.declared.Refusal.{Refusal}
 use Rattle.layout.specs.Layout.{KindRow, Layout, row_names}
 use Rattle.flow.specs.Publication.{Flow, layout_for}
 use Rattle.flow.specs.Editions.{Asked, a_flow, no_flow}
 use Rattle.judge.specs.File.{placed_by, judged_for}
-use Rattle.judge.specs.declared.Judged.{Judged}
-use Rattle.judge.specs.declared.Judged.TheVariants as files
 use Rattle.index.specs.declared.Entry.{Entry}
-use Rattle.index.specs.declared.Indexed.{Indexed}
-use Rattle.index.specs.declared.Indexed.TheVariants.{Filled, Refused}
+use Rattle.index.specs.declared.Filled.{Filled}
 
 -- what an index asks of a flow: the names of its kinds, which count from 1, and for each row the kind within which it stands (0: none)
 pub record Kinds : Type 0 where
@@ -95,22 +93,26 @@ entries_from ks f before (j ∷ js) =
 abbrev pub entries_of : Kinds → List ℕ → List Entry
 entries_of ks f = entries_from ks f [] (kinds_of ks f)
 
+-- what is said of a list that was filled: the file's records, and the entries
+abbrev pub filled : ℕ → ℕ → Filled
+filled n m = record { records = n; entries = m }
+
 -- the reader's refusal, then 19 where the list has no room for all entries; an acceptance gives the records, with the entries beside it
-unfoldable pub indexed_by : Judged → List Entry → ℕ → Indexed
-indexed_by (files.Refused r) es room = Refused r
-indexed_by (files.Accepted n) es room = must (leb (length es) room) (Refused (whole 19)) (Filled n (length es))
+unfoldable pub indexed_by : Result ℕ Refusal → List Entry → ℕ → Result Filled Refusal
+indexed_by (Err r) es room = Err r
+indexed_by (Ok n) es room = must (leb (length es) room) (Err (whole 19)) (Ok (filled n (length es)))
 
 -- the list afterwards: the entries and then what it held; refused, what it held
-unfoldable pub list_by : Indexed → List Entry → List Entry → List Entry
-list_by (Refused r) es old = old
-list_by (Filled n m) es old = es ++ drop m old
+unfoldable pub list_by : Result Filled Refusal → List Entry → List Entry → List Entry
+list_by (Err r) es old = old
+list_by (Ok said) es old = es ++ drop said.entries old
 
 -- the entries of a file by a layout
 abbrev pub entries_by : Layout → List ℕ → List Entry
 entries_by l f = entries_of (kinds_by l) f
 
 -- the answer by a layout for a file and a list of so many entries
-abbrev pub answer_by : Layout → List ℕ → ℕ → Indexed
+abbrev pub answer_by : Layout → List ℕ → ℕ → Result Filled Refusal
 answer_by l f room = indexed_by (placed_by l f) (entries_by l f) room
 
 -- the same for what is asked: where that is refused there are no entries, and its refusal is the answer
@@ -118,7 +120,7 @@ abbrev pub entries_for : Asked → List ℕ → List Entry
 entries_for (a_flow fl) f = entries_by (layout_for fl) f
 entries_for (no_flow r) f = []
 
-abbrev pub answer_for : Asked → List ℕ → ℕ → Indexed
+abbrev pub answer_for : Asked → List ℕ → ℕ → Result Filled Refusal
 answer_for a f room = indexed_by (judged_for a f) (entries_for a f) room
 
 -- the papers' answers: an acceptance gives the records and the entries, a refusal its number, record, field and place
@@ -127,9 +129,9 @@ pub data Reply : Type 0 where
   refused : ℕ → ℕ → ℕ → ℕ → Reply
 
 -- what each case of the code's answer says in the papers' terms
-abbrev pub paper : Indexed → Reply
-paper (Filled n m) = accepted n m
-paper (Refused r) = refused r.number r.«record» r.field r.place
+abbrev pub paper : Result Filled Refusal → Reply
+paper (Ok said) = accepted said.records said.entries
+paper (Err r) = refused r.number r.«record» r.field r.place
 
 -- fill a lent list with the index of a file for what is asked
 unfoldable pub indexed : Asked → List ℕ → ℕ → Reply
@@ -140,7 +142,7 @@ unfoldable pub listed : Asked → List ℕ → List Entry → List Entry
 listed a f old = list_by (answer_for a f (length old)) (entries_for a f) old
 
 -- a filling is right: what is said, and what the list holds at the end
-pub record FilledRight (a : Asked) (f : List ℕ) (old new : List Entry) (said : Indexed) : Type 0 where
+pub record FilledRight (a : Asked) (f : List ℕ) (old new : List Entry) (said : Result Filled Refusal) : Type 0 where
   pub says : paper said ≡ indexed a f (length old)
   pub holds : new ≡ listed a f old
 
@@ -153,11 +155,11 @@ cells_of [] = []
 cells_of (e ∷ es) = numbers_of e ++ cells_of es
 
 -- the same list as numbers, four an entry
-unfoldable pub cells_by : Indexed → List Entry → List ℕ → List ℕ
-cells_by (Refused r) es old = old
-cells_by (Filled n m) es old = cells_of es ++ drop (4 * m) old
+unfoldable pub cells_by : Result Filled Refusal → List Entry → List ℕ → List ℕ
+cells_by (Err r) es old = old
+cells_by (Ok said) es old = cells_of es ++ drop (4 * said.entries) old
 
 -- a filling of numbers is right: a list of so many numbers has room for a quarter as many entries
-pub record CellsRight (a : Asked) (f old new : List ℕ) (said : Indexed) : Type 0 where
+pub record CellsRight (a : Asked) (f old new : List ℕ) (said : Result Filled Refusal) : Type 0 where
   pub says : paper said ≡ indexed a f (length old / 4)
   pub holds : new ≡ cells_by (answer_for a f (length old / 4)) (entries_for a f) old

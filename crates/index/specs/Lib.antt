@@ -2,3 +2,4 @@ pub mod Entries
 pub mod Code
 pub mod Standing
 pub mod Whole
+pub mod Slots

@@ -19,16 +19,14 @@ use Rattle.flow.specs.Editions.{Asked, a_flow, no_flow, asked}
 use Rattle.flow.specs.Proper.{key_fits, Proper}
 use Rattle.flow.proofs.Proper.{ProperAsked}
 use Rattle.flow.proofs.Asking.{asked_proper}
-use Rattle.fault.specs.Fields.{fields_fault}
+use Rattle.fault.specs.Fields.{fine as nothing_wrong, fault as wrong, fields_fault}
 use Rattle.fault.specs.Record.{kind_of, footer_fault}
 use Rattle.judge.specs.Record.{sum_of}
-use Rattle.judge.specs.File.{ends_in_feed, judged_by, with_place, judged_for, Reply, accepted, refused, paper, judged}
+use Rattle.judge.specs.File.{unplaced, ends_in_feed, judged_by, with_place, judged_for, Reply, accepted, refused, paper, judged}
 use Rattle.judge.specs.Right.{kind_in, published_as, published_for, Typed, RightFor, Right}
-use Rattle.fault.specs.declared.Check.TheVariants.{Fine, Fault}
-use Rattle.judge.specs.declared.Verdict.{Verdict}
-use Rattle.judge.specs.declared.Verdict.TheVariants.{Accepted, Refused}
-use Rattle.judge.specs.declared.Judged.{Judged}
-use Rattle.judge.specs.declared.Judged.TheVariants as answers
+use Rattle.judge.specs.declared.Unplaced.{Unplaced}
+use Rattle.std.specs.Prelude.{Result, Ok, Err}
+use Rattle.place.specs.declared.Refusal.{Refusal}
 use Rattle.judge.proofs.RightEach.{Each}
 use Rattle.judge.proofs.RightFields.{FineRecord, fine_each, is_typed, typed_is}
 use Rattle.judge.proofs.Passes.{Passes, passes, passed, bars, all_fine, last_spells}
@@ -45,7 +43,7 @@ not_needed true b h = h refl
 not_needed false b h = refl
 
 -- a footer that tells the records before it has no fault
-foot_right : (b c d : Bool) → (b ≡ true → (c ≡ true) × (d ≡ true)) → cond b (must c (Fault 12 2) (must d (Fault 13 3) Fine)) Fine ≡ Fine
+foot_right : (b c d : Bool) → (b ≡ true → (c ≡ true) × (d ≡ true)) → cond b (must c (wrong 12 2) (must d (wrong 13 3) nothing_wrong)) nothing_wrong ≡ nothing_wrong
 foot_right true c d h = rw ((h refl).0, (h refl).1)
 foot_right false c d h = refl
 
@@ -105,7 +103,7 @@ module _ (fl : Flow) (proper : Proper fl) (f : List ℕ) (n : ℕ) where
     placed : Each (Placed l) [] rs
     placed = under_placed fl proper.agree proper.some rs p.grammar
 
-    closed_right : (b : List (List ℕ)) (r : List ℕ) (a : List (List ℕ)) → rs ≡ b ++ r ∷ a → footer_fault bar l (length b) (sum_of bar b) (kind_of bar l r) r ≡ Fine
+    closed_right : (b : List (List ℕ)) (r : List ℕ) (a : List (List ℕ)) → rs ≡ b ++ r ∷ a → footer_fault bar l (length b) (sum_of bar b) (kind_of bar l r) r ≡ nothing_wrong
     unfolding footer_fault
     closed_right b r a e =
         foot_right (is_footer l (kind_of bar l r)) (spelled (length b + 1) (field bar 2 r)) (spelled (sum_of bar b) (field bar 3 r))
@@ -143,47 +141,47 @@ module _ (fl : Flow) (proper : Proper fl) (f : List ℕ) (n : ℕ) where
         }
 
   -- a file is accepted for the flow exactly where it is right for it
-  pub right_for : (judged_by (layout_for fl) f ≡ Accepted n) ↔ RightFor fl f n
+  pub right_for : (judged_by (layout_for fl) f ≡ Ok n) ↔ RightFor fl f n
   right_for = (λ e. accepted_right (passes (layout_for fl) f n e), λ p. passed (layout_for fl) f n (right_passes p))
 
 -- the answer that says this
-abbrev said : Reply → Judged
-said (accepted n) = answers.Accepted n
-said (refused number r k place) = answers.Refused (refusal number r k place)
+abbrev said : Reply → Result ℕ Refusal
+said (accepted n) = Ok n
+said (refused number r k place) = Err (refusal number r k place)
 
-said_paper : (v : Judged) → said (paper v) ≡ v
-said_paper (answers.Accepted n) = refl
-said_paper (answers.Refused r) = refl
+said_paper : (v : Result ℕ Refusal) → said (paper v) ≡ v
+said_paper (Ok n) = refl
+said_paper (Err r) = refl
 
 -- two answers that say the same in the papers' terms are the same answer, so only one meets the promise of judge
-pub one_reply : (v w : Judged) → paper v ≡ paper w → v ≡ w
+pub one_reply : (v w : Result ℕ Refusal) → paper v ≡ paper w → v ≡ w
 one_reply v w e = same_said paper said said_paper v w e
 
 -- what the answer is where the papers' answer is an acceptance
-pub accepted_answer : (a : Asked) (f : List ℕ) (n : ℕ) → judged a f ≡ accepted n → judged_for a f ≡ answers.Accepted n
+pub accepted_answer : (a : Asked) (f : List ℕ) (n : ℕ) → judged a f ≡ accepted n → judged_for a f ≡ Ok n
 unfolding judged
-accepted_answer a f n e = one_reply (judged_for a f) (answers.Accepted n) e
+accepted_answer a f n e = one_reply (judged_for a f) (Ok n) e
 
 -- the verdict before a refusal's place
-abbrev unplaced : Reply → Verdict
-unplaced (accepted n) = Accepted n
-unplaced (refused number r k place) = Refused number r k
+abbrev verdict_of : Reply → Result ℕ Unplaced
+verdict_of (accepted n) = Ok n
+verdict_of (refused number r k place) = Err (unplaced number r k)
 
 not_both : {number r k place n : ℕ} → refused number r k place ≡ accepted n → ⊥
 not_both e = let z : ◌≡◌ {A = ℕ} 0 1 = cc in omega arith
 
-pub unplaced_paper : (sep : ℕ) (s : List ℕ) (v : Verdict) → unplaced (paper (with_place sep s v)) ≡ v
-unplaced_paper sep s (Accepted n) = refl
-unplaced_paper sep s (Refused number r k) = refl
+pub unplaced_paper : (sep : ℕ) (s : List ℕ) (v : Result ℕ Unplaced) → verdict_of (paper (with_place sep s v)) ≡ v
+unplaced_paper sep s (Ok n) = refl
+unplaced_paper sep s (Err r) = refl
 
 module _ (f : List ℕ) (n : ℕ) where
   -- a file is accepted for what is asked where that is a flow, and the file is accepted by its layout
-  pub accepted_flow : (a : Asked) → judged a f ≡ accepted n → (fl : Flow) × (a ≡ a_flow fl) × (judged_by (layout_for fl) f ≡ Accepted n)
+  pub accepted_flow : (a : Asked) → judged a f ≡ accepted n → (fl : Flow) × (a ≡ a_flow fl) × (judged_by (layout_for fl) f ≡ Ok n)
   unfolding judged judged_for
-  accepted_flow (a_flow fl) e = (fl, refl, sym (unplaced_paper bar f (judged_by (layout_for fl) f)) ∙ ap unplaced e)
+  accepted_flow (a_flow fl) e = (fl, refl, sym (unplaced_paper bar f (judged_by (layout_for fl) f)) ∙ ap verdict_of e)
   accepted_flow (no_flow r) e = absurd (not_both e)
 
-  pub flow_accepted : (fl : Flow) → judged_by (layout_for fl) f ≡ Accepted n → judged (a_flow fl) f ≡ accepted n
+  pub flow_accepted : (fl : Flow) → judged_by (layout_for fl) f ≡ Ok n → judged (a_flow fl) f ≡ accepted n
   unfolding judged judged_for
   flow_accepted fl e = rw e
 

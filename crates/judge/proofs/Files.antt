@@ -13,16 +13,16 @@ use Rattle.checksum.specs.Checksum.{add_record, checksum}
 use Rattle.record.proofs.Cutting.{records_le}
 use Rattle.checksum.proofs.Sums.{checksum_snoc}
 use Rattle.layout.specs.Layout.{Layout, row}
+use Rattle.fault.specs.Fields.{Check, fine as nothing_wrong, fault as wrong}
 use Rattle.fault.specs.Record.{kind_of, key_in, kind_fault}
 use Rattle.judge.specs.Record.{last_kind, key_with, key_before, sum_of, fault}
-use Rattle.judge.specs.File.{at_record, checked_from, ends_in_feed, ended, judged_by}
+use Rattle.judge.specs.File.{unplaced, at_record, checked_from, ends_in_feed, ended, judged_by}
 use Rattle.fault.specs.Code.{key_in_slots, next_state, record_fault, Passed}
 use Rattle.judge.specs.Code.{summary}
-use Rattle.fault.specs.declared.Check.{Check}
-use Rattle.fault.specs.declared.Check.TheVariants.{Fine, Fault}
+use Rattle.fault.specs.declared.Fault.{Fault}
 use Rattle.fault.specs.declared.State.{State}
-use Rattle.judge.specs.declared.Verdict.{Verdict}
-use Rattle.judge.specs.declared.Verdict.TheVariants.{Accepted, Refused}
+use Rattle.judge.specs.declared.Unplaced.{Unplaced}
+use Rattle.std.specs.Prelude.{Result, Ok, Err}
 use Rattle.judge.proofs.Slots.{put_in, put_size, stamps_next, keys_next, none_at}
 
 -- a record is judged by the summary of the records before it and by their keys
@@ -83,7 +83,7 @@ module _ (sep : ℕ) (l : Layout) (f : List ℕ) (st : State) (slots : List ℕ)
   summed : (r : List ℕ) → record_fault sep l st (key_in_slots l f slots) r ≡ fault sep l p.before r
   unfolding record_fault
   summed r =
-      (λ i. must (leb (length r) 512) (Fault 3 0)
+      (λ i. must (leb (length r) 512) (wrong 3 0)
       (kind_fault sep l (p.is i).count (p.is i).last (p.is i).sum (p.keys (kind_of sep l r) i) (kind_of sep l r) r))
       ∙ fault_is sep l p.before r
 
@@ -92,11 +92,11 @@ module _ (sep : ℕ) (l : Layout) (f : List ℕ) (st : State) (slots : List ℕ)
   count_is = ap (λ (s : State). s.count) p.is
 
   -- no records are left: all passed, and the state is the summary of them all
-  pub kept_done : records (drop at f) ≡ [] → (checked_from sep l [] (records f) ≡ Accepted (length (records f))) × (st ≡ summary sep l (records f))
+  pub kept_done : records (drop at f) ≡ [] → (checked_from sep l [] (records f) ≡ Ok (length (records f))) × (st ≡ summary sep l (records f))
   unfolding checked_from
   kept_done e =
       let w : p.before ≡ records f = sym (append-nil p.before) ∙ ap (λ (x : List (List ℕ)). p.before ++ x) (sym e) ∙ p.all in (
-        sym p.same ∙ ap (checked_from sep l p.before) e ∙ ap (λ (x : List (List ℕ)). Accepted (length x)) w,
+        sym p.same ∙ ap (checked_from sep l p.before) e ∙ ap (λ (x : List (List ℕ)). Ok (length x)) w,
         p.is ∙ ap (summary sep l) w,
       )
 
@@ -109,9 +109,9 @@ module _ (sep : ℕ) (l : Layout) (f : List ℕ) (st : State) (slots : List ℕ)
         ∙ (λ i. at_record (sym count_is i + 1) ((sym (summed r) ∙ q) i) (checked_from sep l (p.before ++ r ∷ []) rest))
 
     -- a record stops: this is the first refusal
-    pub kept_stop : (number at : ℕ) → record_fault sep l st (key_in_slots l f slots) r ≡ Fault number at
-        → checked_from sep l [] (records f) ≡ Refused number (st.count + 1) at
-    kept_stop number at q = step_verdict (Fault number at) q
+    pub kept_stop : (x : Fault) → record_fault sep l st (key_in_slots l f slots) r ≡ Err x
+        → checked_from sep l [] (records f) ≡ Err (unplaced x.number (st.count + 1) x.field)
+    kept_stop x q = step_verdict (Err x) q
 
   -- a record passes
   module _ (r : List ℕ) (at' : ℕ) (e : records (drop at f) ≡ r ∷ records (drop at' f)) (onward : at < at') (inside : at' ≤ length f)
@@ -140,22 +140,21 @@ module _ (sep : ℕ) (l : Layout) (f : List ℕ) (st : State) (slots : List ℕ)
           stamped = stamps_next sep l f slots r j st.count next.count a len p.size kind_small kind_is one_more_lem p.stamped there;
           keys = λ k. keys_next sep l f slots r j st.count next.count a len p.size kind_small kind_is one_more_lem p.stamped there k
               ∙ ap (λ (x : List ℕ). key_with sep l k x r) (p.keys k) ∙ sym (key_snoc sep l k p.before r);
-          same = sym (step_verdict r (records (drop at' f)) e Fine o.fine);
+          same = sym (step_verdict r (records (drop at' f)) e nothing_wrong o.fine);
           all = append_snoc p.before r (records (drop at' f)) ∙ ap (λ (x : List (List ℕ)). p.before ++ x) (sym e) ∙ p.all;
         }
 
 -- the whole file, by what its records come to
 module _ (l : Layout) (f : List ℕ) where
-  pub file_long : 1048576 < length f → Refused 2 0 0 ≡ judged_by l f
+  pub file_long : 1048576 < length f → Err (unplaced 2 0 0) ≡ judged_by l f
   unfolding judged_by
   file_long h = rw (lt-leb _ _ h)
 
-  pub file_stopped : (number n at : ℕ) → length f ≤ 1048576 → checked_from bar l [] (records f) ≡ Refused number n at
-      → Refused number n at ≡ judged_by l f
+  pub file_stopped : (r : Unplaced) → length f ≤ 1048576 → checked_from bar l [] (records f) ≡ Err r → Err r ≡ judged_by l f
   unfolding judged_by
-  file_stopped number n at h e = rw (le-leb _ _ h, e)
+  file_stopped r h e = rw (le-leb _ _ h, e)
 
-  pub file_through : (st : State) (m : ℕ) (v : Verdict) → length f ≤ 1048576 → checked_from bar l [] (records f) ≡ Accepted m
+  pub file_through : (st : State) (m : ℕ) (v : Result ℕ Unplaced) → length f ≤ 1048576 → checked_from bar l [] (records f) ≡ Ok m
       → st ≡ summary bar l (records f) → v ≡ ended l st.count st.last (ends_in_feed f) → v ≡ judged_by l f
   unfolding judged_by summary
   file_through st m v h e q w =

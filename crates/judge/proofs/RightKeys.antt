@@ -9,8 +9,8 @@ use lib.ListN.{length, get_or}
 use borrow.Author.Tests.{eqb-true, eqb-false, leb-true, not-true, eq-eqb, ne_eqb}
 use Rattle.text.specs.Characters.{all}
 use Rattle.text.specs.Order.{same_bytes}
-use Rattle.text.specs.declared.Order.{Order}
-use Rattle.text.specs.declared.Order.TheVariants.{Below, Equal, Above}
+use Rattle.std.specs.declared.cmp.Ordering.{Ordering}
+use Rattle.std.specs.declared.cmp.Ordering.TheVariants.{Less, Equal, Greater}
 use Rattle.text.proofs.Lists.{same_refl}
 use Rattle.record.specs.Records.{field, bar}
 use Rattle.field.specs.Types.{is_null}
@@ -23,10 +23,10 @@ use Rattle.layout.proofs.Names.{found_row}
 use Rattle.grammar.specs.Table.{row_of}
 use Rattle.flow.specs.Publication.{Flow, PublishedKind, names, null, row_for, layout_for, key_type_for}
 use Rattle.flow.specs.Proper.{key_fits}
+use Rattle.fault.specs.Fields.{fine as nothing_wrong}
 use Rattle.fault.specs.Record.{kind_of, key_in, key_type, keys_in_order, ascending, key_fault}
 use Rattle.judge.specs.Record.{key_with, key_before}
 use Rattle.judge.specs.Right.{kind_in, NoneOfKind, published_as, published_for, Typed, KeysInOrder, Ascends}
-use Rattle.fault.specs.declared.Check.TheVariants.{Fine}
 use Rattle.judge.proofs.RightEach.{Each, each_first, each_rest}
 use Rattle.judge.proofs.RightFields.{must_fine, fine_must, filled_right}
 use Rattle.judge.proofs.RightKinds.{kind_row, known_row, one_name, one_kind}
@@ -183,16 +183,16 @@ or_either true b e = refl
 or_either false b e = e
 
 -- two keys that pass the test are in order, and two in order pass it
-in_order_lem : (repeats : Bool) (o : Order) → keys_in_order repeats o ≡ true → KeysInOrder repeats o
+in_order_lem : (repeats : Bool) (o : Ordering) → keys_in_order repeats o ≡ true → KeysInOrder repeats o
 in_order_lem true o e = λ above. false≢true (sym (ap (keys_in_order true) above) ∙ e)
-in_order_lem false Below e = refl
+in_order_lem false Less e = refl
 in_order_lem false Equal e = absurd (false≢true e)
-in_order_lem false Above e = absurd (false≢true e)
+in_order_lem false Greater e = absurd (false≢true e)
 
-order_passes : (repeats : Bool) (o : Order) → KeysInOrder repeats o → keys_in_order repeats o ≡ true
-order_passes true Below h = refl
+order_passes : (repeats : Bool) (o : Ordering) → KeysInOrder repeats o → keys_in_order repeats o ≡ true
+order_passes true Less h = refl
 order_passes true Equal h = refl
-order_passes true Above h = absurd (h refl)
+order_passes true Greater h = absurd (h refl)
 order_passes false o h = ap (keys_in_order false) h
 
 module _ (fl : Flow) (r : List ℕ) (known : kind_of bar (layout_for fl) r ≡ 0 → ⊥) (fits : key_fits (published_for fl r) ≡ true) where
@@ -208,7 +208,7 @@ module _ (fl : Flow) (r : List ℕ) (known : kind_of bar (layout_for fl) r ≡ 0
   -- a record whose key is not refused ascends from the last of its kind, which has a key
   pub ascends_from : (b : List (List ℕ)) (q : List ℕ) (mid : List (List ℕ)) → kind_in q ≡ kind_in r → Typed (published_for fl r).fields q
       → Each (Known fl r known) [] mid → NoneOfKind (kind_in r) mid → NoneOfKind (published_for fl r).within mid
-      → key_fault (layout_for fl) (k fl r known) (key_before bar (layout_for fl) (b ++ q ∷ mid) (k fl r known)) (key_in bar (layout_for fl) (k fl r known) r) ≡ Fine
+      → key_fault (layout_for fl) (k fl r known) (key_before bar (layout_for fl) (b ++ q ∷ mid) (k fl r known)) (key_in bar (layout_for fl) (k fl r known) r) ≡ nothing_wrong
       → Ascends (published_for fl r) q r
   unfolding key_fault
   ascends_from b q mid e typed h x y f hk =
@@ -219,7 +219,7 @@ module _ (fl : Flow) (r : List ℕ) (known : kind_of bar (layout_for fl) r ≡ 0
       let last : old ≡ key_in bar L K q = before_is fl r known (apart_of hk) b q mid e h x y in
       let some : eqb (length old) 0 ≡ false =
       ap (λ (o : List ℕ). eqb (length o) 0) (last ∙ ap (λ (j : ℕ). field bar j q) (key_is fl r known)) ∙ key_filled P (keyed P fits hk) q typed in
-      let t = (must_fine (eqb (row L K).key 0 || ascending (row L K).repeats (key_type L K) old (key_in bar L K r)) 11 (row L K).key Fine f).0 in
+      let t = (must_fine (eqb (row L K).key 0 || ascending (row L K).repeats (key_type L K) old (key_in bar L K r)) 11 (row L K).key nothing_wrong f).0 in
       let u = or_right (eqb (row L K).key 0) _ (ne_eqb _ _ (λ z. hk (sym (key_is fl r known) ∙ z))) t in
       let w = or_right (eqb (length old) 0) _ some u in
       in_order_lem P.repeats _
@@ -249,10 +249,10 @@ module _ (fl : Flow) (r : List ℕ) (known : kind_of bar (layout_for fl) r ≡ 0
     fault_go true e = refl
     fault_go false e = after_go (key_before bar (layout_for fl) before (k fl r known)) (latest fl r known before []) (eqb-false _ _ e)
 
-    pub key_fine : key_fault (layout_for fl) (k fl r known) (key_before bar (layout_for fl) before (k fl r known)) (key_in bar (layout_for fl) (k fl r known) r) ≡ Fine
+    pub key_fine : key_fault (layout_for fl) (k fl r known) (key_before bar (layout_for fl) before (k fl r known)) (key_in bar (layout_for fl) (k fl r known) r) ≡ nothing_wrong
     unfolding key_fault
     key_fine =
-        fine_must _ 11 (row (layout_for fl) (k fl r known)).key Fine
+        fine_must _ 11 (row (layout_for fl) (k fl r known)).key nothing_wrong
         ((λ i. eqb (key_is fl r known i) 0 || ascending (repeats_is fl r known i) (type_is fl r known i) (key_before bar (layout_for fl) before (k fl r known)) (field bar (key_is fl r known i) r))
         ∙ fault_go (eqb P.key 0) refl)
         refl

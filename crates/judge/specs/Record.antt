@@ -6,9 +6,8 @@ use Rattle.text.specs.Rules.{must}
 use Rattle.record.specs.Records.{barred}
 use Rattle.checksum.specs.Checksum.{checksum}
 use Rattle.layout.specs.Layout.{Layout, row}
+use Rattle.fault.specs.Fields.{Check, fault as wrong}
 use Rattle.fault.specs.Record.{kind_of, key_in, kind_fault}
-use Rattle.fault.specs.declared.Check.{Check}
-use Rattle.fault.specs.declared.Check.TheVariants.{Fault}
 
 -- the kind of the last of some records, 0 where there is none
 unfoldable pub last_kind : ℕ → Layout → List (List ℕ) → ℕ
@@ -31,5 +30,5 @@ sum_of sep before = checksum (map (barred sep) before)
 -- the first fault of a record that stands after these records
 unfoldable pub fault : ℕ → Layout → List (List ℕ) → List ℕ → Check
 fault sep l before r =
-    must (leb (length r) 512) (Fault 3 0)
+    must (leb (length r) 512) (wrong 3 0)
     (kind_fault sep l (length before) (last_kind sep l before) (sum_of sep before) (key_before sep l before (kind_of sep l r)) (kind_of sep l r) r)

@@ -1,15 +1,15 @@
 -- Demand 2 in plain terms: what makes a file right for a flow. No table is in sight: the grammar is the published one, and a
 -- record must be as its kind is published. Assumes nothing.
-use Rattle.std.specs.Prelude.{ℕ, ◌+◌, ◌-◌, ◌≤◌, ◌<◌, ◌≡◌, Bool, true, false, cond, List, [], ◌∷◌, ◌++◌, map, length, get_or}
+use Rattle.std.specs.Prelude.{ℕ, ◌+◌, ◌-◌, ◌≤◌, ◌<◌, ◌≡◌, Bool, true, false, cond, List, [], ◌∷◌, ◌++◌, map, length, get_or, Err}
 use Rattle.text.specs.Order.{same_bytes}
-use Rattle.text.specs.declared.Order.{Order}
-use Rattle.text.specs.declared.Order.TheVariants.{Below, Above}
+use Rattle.std.specs.declared.cmp.Ordering.{Ordering}
+use Rattle.std.specs.declared.cmp.Ordering.TheVariants.{Less, Greater}
 use Rattle.record.specs.Records.{records, fields, field, bar}
 use Rattle.checksum.specs.Checksum.{checksum as sum_of_records}
 use Rattle.number.specs.Numbers.{spelled}
 use Rattle.field.specs.Judge.{field_answer}
 use Rattle.field.specs.Keys.{key_order}
-use Rattle.field.specs.declared.FieldAnswer.TheVariants as answers
+use Rattle.field.specs.declared.Wrong.{Wrong}
 use Rattle.layout.specs.Layout.{Rule}
 use Rattle.grammar.specs.Sets.{Under}
 use Rattle.flow.specs.Publication.{Flow, PublishedKind, kind, null, key_type_for}
@@ -35,7 +35,7 @@ published_for flow r = published_as flow.kinds (kind_in r)
 
 -- a field meets its rule: it is not refused
 abbrev pub Meets : Rule → List ℕ → Type 0
-Meets rule s = (number : ℕ) → field_answer rule.type rule.mark s ≡ answers.Refused number → ⊥
+Meets rule s = (wrong : Wrong) → field_answer rule.type rule.mark s ≡ Err wrong → ⊥
 
 -- besides its kind a record has as many fields as there are rules, and each, from field 2 on, meets its rule
 pub record Typed (rules : List Rule) (r : List ℕ) : Type 0 where
@@ -43,9 +43,9 @@ pub record Typed (rules : List Rule) (r : List ℕ) : Type 0 where
   pub each_field : (i : ℕ) → i < length rules → Meets (get_or rules i null) (field bar (i + 2) r)
 
 -- a key that may repeat does not fall; any other rises
-abbrev pub KeysInOrder : Bool → Order → Type 0
-KeysInOrder true order = order ≡ Above → ⊥
-KeysInOrder false order = order ≡ Below
+abbrev pub KeysInOrder : Bool → Ordering → Type 0
+KeysInOrder true order = order ≡ Greater → ⊥
+KeysInOrder false order = order ≡ Less
 
 -- where the kind has a key, that of q and that of r are in order
 abbrev pub Ascends : PublishedKind → List ℕ → List ℕ → Type 0

@@ -1,23 +1,14 @@
 -- Bytes as they are shown, put one after the other. Assumes nothing.
-use Prim.Native.Nat.{ℕ, suc, ◌+◌, ◌-◌, ◌/◌, ◌%◌, ◌≤◌, ◌<◌}
+use Prim.Native.Nat.{ℕ, ◌+◌, ◌-◌, ◌≤◌, ◌<◌}
 use native.Mathlib.Nat.{sub-zero}
 use native.Mathlib.Numerals.{add-one}
 use native.Mathlib.Omega.{arith}
 use mathlib.Core.Path.{◌≡◌, refl, sym, ap, ap₂, ◌∙◌}
 use mathlib.Core.List.{List, [], ◌∷◌, ◌++◌, append_assoc, append-nil}
 use borrow.Author.Tests.{le-leb, lt-leb}
-use lib.ListN.{length, drop, get_or, set, length-append, length-drop}
+use lib.ListN.{length, drop, get_or, length-append, length-drop}
 use lib.Seq.{take_at, drop_at, drop-drop, drop-cons, drop-length, length-take-le, sets, sets-eq}
-use Rattle.legible.specs.Shown.{hex_digit, escaped, shown_byte, shown, fitting, Shows}
-
--- four bytes set one after the other
-pub four_set : (old : List ℕ) (at b high low : ℕ) → high ≡ hex_digit (b / 16) → low ≡ hex_digit (b % 16) →
-    set (set (set (set old at 0x5C) (at + 1) 0x78) (at + 2) high) (at + 3) low ≡ sets old at (escaped b)
-four_set old at b high low e f =
-    let x : at + 1 ≡ suc at = omega arith in
-    let y : at + 2 ≡ suc (suc at) = omega arith in
-    let z : at + 3 ≡ suc (suc (suc at)) = omega arith in
-    rw (x, y, z, e, f)
+use Rattle.legible.specs.Shown.{shown_byte, shown, fitting, Shows}
 
 -- bytes set behind those that were put
 behind : (old done x : List ℕ) (n : ℕ) → length done ≡ n → n + length x ≤ length old →

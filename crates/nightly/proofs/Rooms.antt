@@ -1,18 +1,18 @@
 -- A room filled byte by byte, and looked at byte by byte. Assumes nothing.
-use Rattle.std.proofs.Common.{◌≡◌, ℕ, ◌+◌, ◌<◌, ◌≤◌, Bool, true, false, eqb, List, length, get_or, drop, set, refl, ◌∙◌, add-one, arith, drop_of_length-le, drop-cons, get_or-set_other, get_or-set_same, eq-eqb, ne_eqb, eqb-true}
+use Rattle.std.proofs.Common.{◌≡◌, ℕ, ◌+◌, ◌<◌, Bool, true, false, ◌&&◌, map, sym, ap, eqb, List, length, get_or, drop, set, refl, ◌∙◌, add-one, arith, drop-cons, get_or-set_other, get_or-set_same, eqb-true}
 use borrow.Author.Tests.{eqb-false}
+use lib.ListN.{length-map}
+use Rattle.std.proofs.lemmas.List.{get_or-map}
 use Rattle.nightly.specs.Room.{pattern, patterned}
 
-module _ (room : List ℕ) (i : ℕ) where
-  -- the byte at i, then those behind it
-  pub kept_fails : i < length room → (get_or room i 0 ≡ pattern i → ⊥) → patterned i (drop i room) ≡ false
-  kept_fails h e = rw (drop-cons room i 0 h, ne_eqb _ _ e)
-
-  pub kept_next : i < length room → get_or room i 0 ≡ pattern i → patterned (i + 1) (drop (i + 1) room) ≡ patterned i (drop i room)
-  kept_next h e = rw (add-one, drop-cons room i 0 h, eq-eqb _ _ e)
-
-  pub kept_end : length room ≤ i → patterned i (drop i room) ≡ true
-  kept_end h = rw (drop_of_length-le room h)
+-- the cell x at i, of which b says whether it holds the pattern, then those behind it
+module _ {X : Type 0} (number : X → ℕ) (room : List X) (i : ℕ) (x : X) (inside : i < length room) (is : x ≡ get_or room i x) where
+  pub looked : (b : Bool) → b ≡ eqb (number x) (pattern i) →
+      patterned i (drop i (map number room)) ≡ b && patterned (i + 1) (drop (i + 1) (map number room))
+  looked b e =
+      let h : i < length (map number room) = simp length-map inside in
+      let here : number x ≡ get_or (map number room) i 0 = ap number is ∙ sym (get_or-map number room i x 0 inside) in
+      rw (add-one, drop-cons (map number room) i 0 h, ← here, ← e)
 
 -- the bytes before i hold the pattern
 abbrev pub Front : List ℕ → ℕ → Type 0

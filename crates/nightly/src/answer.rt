@@ -1,13 +1,13 @@
-// The answer to a case: one line. Each function gives whether all of it was written.
+// The answer to a case: one line. Each function fails where not all of it was written.
 use crate::indexing;
 use crate::room::{fill, kept};
-use field::{FieldAnswer, FieldType, Mark};
-use flow::StepAnswer;
+use field::{Content, FieldType, Mark};
+use flow::NoStep;
 use headers::{Ask, Making};
-use period::Answer;
+use place::Refusal;
 use printing::{print_follow, print_numbers, print_refusal, print_truth, print_value, print_whole};
-use sheet::Transfer;
-use stream::{least, print};
+use sheet::Transferred;
+use stream::{Unwritten, print};
 use value::Value;
 
 // The value of one field of a file.
@@ -17,22 +17,26 @@ fn value_line(
     record: usize,
     field: usize,
     file: &[u8],
-) -> bool {
+) -> Result<(), Unwritten> {
     match value::value_of(flow, file, record, field) {
-        Value::Refused(r) => print_refusal(rt, r),
-        Value::Empty => print_value(rt, b"empty", b""),
-        Value::Number(n) => print_whole(rt, n),
-        Value::Truth(truth) => print_truth(rt, truth),
-        Value::Text { from, to } => print_value(rt, b"text", &file[from..to]),
+        Err(r) => print_refusal(rt, r),
+        Ok(Value::Empty) => print_value(rt, b"empty", b""),
+        Ok(Value::Number(n)) => print_whole(rt, n),
+        Ok(Value::Truth(truth)) => print_truth(rt, truth),
+        Ok(Value::Text { from, to }) => print_value(rt, b"text", &file[from..to]),
     }
 }
 
 // Whether a file has a period.
-fn period_line(rt: &(impl Print + Eprint), flow: &[u8], period: usize, file: &[u8]) -> bool {
+fn period_line(
+    rt: &(impl Print + Eprint),
+    flow: &[u8],
+    period: usize,
+    file: &[u8],
+) -> Result<(), Unwritten> {
     match period::has(flow, file, period) {
-        Answer::Refused(r) => print_refusal(rt, r),
-        Answer::Yes => print_truth(rt, true),
-        Answer::No => print_truth(rt, false),
+        Err(r) => print_refusal(rt, r),
+        Ok(has) => print_truth(rt, has),
     }
 }
 
@@ -43,33 +47,33 @@ fn field_line(
     mark: Mark,
     fixed: &[u8],
     bytes: &[u8],
-) -> bool {
+) -> Result<(), Unwritten> {
     match field::judge(form, mark, fixed, bytes) {
-        FieldAnswer::Refused(number) => print_refusal(rt, place::whole(number as usize)),
-        FieldAnswer::Empty => print_value(rt, b"empty", b""),
-        FieldAnswer::Number(n) => print_whole(rt, n),
-        FieldAnswer::Truth(truth) => print_truth(rt, truth),
-        FieldAnswer::Text => print_value(rt, b"text", bytes),
+        Err(wrong) => print_refusal(rt, place::whole(wrong.number() as usize)),
+        Ok(Content::Empty) => print_value(rt, b"empty", b""),
+        Ok(Content::Number(n)) => print_whole(rt, n),
+        Ok(Content::Truth(truth)) => print_truth(rt, truth),
+        Ok(Content::Text) => print_value(rt, b"text", bytes),
     }
 }
 
 // The checksum of bytes.
-fn sum_line(rt: &(impl Print + Eprint), bytes: &[u8]) -> bool {
+fn sum_line(rt: &(impl Print + Eprint), bytes: &[u8]) -> Result<(), Unwritten> {
     print_numbers(rt, b"ok", &[0, checksum::of_bytes(bytes) as usize, 0])
 }
 
 // The step of the flow table through kinds.
-fn step_line(rt: &(impl Print + Eprint), flow: &[u8], kinds: &[u8]) -> bool {
+fn step_line(rt: &(impl Print + Eprint), flow: &[u8], kinds: &[u8]) -> Result<(), Unwritten> {
     let mut follow = [0u8; 96];
     match flow::step(flow, kinds, &mut follow) {
-        StepAnswer::Refused(refusal) => print_refusal(rt, refusal),
-        StepAnswer::Stopped(place) => print_numbers(rt, b"stopped", &[0, place, 0]),
-        StepAnswer::Through { count, complete } => print_follow(rt, count, complete, &follow),
+        Err(NoStep::Refused(r)) => print_refusal(rt, r),
+        Err(NoStep::Stopped(place)) => print_numbers(rt, b"stopped", &[0, place, 0]),
+        Ok(through) => print_follow(rt, through.count, through.complete, &follow),
     }
 }
 
 // Makes in the room what is asked of a body.
-fn make(making: Making, flow: &[u8], body: &[u8], room: &mut [u8]) -> Transfer {
+fn make(making: Making, flow: &[u8], body: &[u8], room: &mut [u8]) -> Result<Transferred, Refusal> {
     match making {
         Making::Write => sheet::write(flow, body, room),
         Making::Read => sheet::read(flow, body, room),
@@ -85,18 +89,22 @@ fn making_line(
     flow: &[u8],
     body: &[u8],
     room: &mut [u8],
-) -> bool {
+) -> Result<(), Unwritten> {
     fill(room);
     match make(making, flow, body, room) {
-        Transfer::Refused(r) => print_numbers(
+        Err(r) => print_numbers(
             rt,
             b"refused",
-            &[r.number, r.record, r.field, r.place, kept(room, 0)],
+            &[r.number, r.record, r.field, r.place, kept(room, 0) as usize],
         ),
-        Transfer::Done { records, bytes } => {
-            print_numbers(rt, b"ok", &[0, records, bytes, 0, kept(room, bytes)])
-                && print(rt, text::part(room, 0, bytes))
-                && print(rt, b"\n")
+        Ok(Transferred { records, bytes }) => {
+            print_numbers(
+                rt,
+                b"ok",
+                &[0, records, bytes, 0, kept(room, bytes) as usize],
+            )?;
+            print(rt, text::part(room, 0, bytes))?;
+            print(rt, b"\n")
         }
     }
 }
@@ -109,7 +117,7 @@ pub fn answer(
     fixed: &[u8],
     body: &[u8],
     room: &mut [u8],
-) -> bool {
+) -> Result<(), Unwritten> {
     match ask {
         Ask::Judge => printing::print_judged(rt, judge::judge(flow, body)),
         Ask::Value { record, field } => value_line(rt, flow, record, field, body),
@@ -118,7 +126,7 @@ pub fn answer(
         Ask::Sum => sum_line(rt, body),
         Ask::Step => step_line(rt, flow, body),
         Ask::Make { making, room: size } => {
-            let n = least(size, room.len());
+            let n = size.min(room.len());
             making_line(rt, making, flow, body, &mut room[0..n])
         }
         Ask::Index { room: size } => indexing::index_line(rt, flow, body, size),

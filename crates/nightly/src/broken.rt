@@ -17,8 +17,8 @@ impl Place {
         ensures { (result.case ≡ (self.case + 1) % 2 ^ 64) × (result.at ≡ (self.at + bytes) % 2 ^ 64) }
     {
         Place {
-            case: std::num::wrapping_add_u64(self.case, 1),
-            at: std::num::wrapping_add_u64(self.at, bytes as u64),
+            case: self.case.wrapping_add(1),
+            at: self.at.wrapping_add(bytes as u64),
         }
     }
 }

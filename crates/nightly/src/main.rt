@@ -11,7 +11,8 @@ ghost use Rattle.stream.specs.Window.{Within};
 ghost use Rattle.nightly.specs.Turns.{TakesOf, StaysIn};
 
 use broken::{Fault, Place};
-use headers::{Case, Header};
+use headers::Case;
+use std::ops::ControlFlow;
 use stream::{Ending, Reading, Unread};
 
 // How many bytes a case has, all of them there and answered; or what is wrong with it where no more
@@ -31,25 +32,11 @@ struct Run {
     place: Place,
 }
 
-// Whether the run goes on, and from where; or how it ended.
-#[derive(Clone, Copy)]
-enum Turn {
-    On(Run),
-    Over(Ending),
-}
-
 // How many bytes stand before the first line feed; all where there is none.
 fn line_length(s: &[u8]) -> usize
     ensures { result ≤ length s.now }
 {
-    let mut i = 0;
-    while i < s.len() {
-        if s[i] == b'\n' {
-            return i;
-        }
-        i += 1;
-    }
-    i
+    s.iter().position(|b| *b == b'\n').unwrap_or(s.len())
 }
 
 // Answers the first case of some bytes, whose header has n bytes, if it is all there.
@@ -74,10 +61,10 @@ fn answer_case(rt: &(impl Print + Eprint), case: Case, n: usize, s: &[u8], room:
     let end = middle + case.length;
     let ask = case.ask;
     let flow = headers::word(&s[0..n], 2);
-    if answer::answer(rt, ask, flow, &s[start..middle], &s[middle..end], room) {
-        return First::Took(end);
+    match answer::answer(rt, ask, flow, &s[start..middle], &s[middle..end], room) {
+        Ok(()) => First::Took(end),
+        Err(_) => First::Unwritten,
     }
-    First::Unwritten
 }
 
 // Answers the first case of some bytes, if it is all there.
@@ -89,15 +76,15 @@ fn answer_first(rt: &(impl Print + Eprint), s: &[u8], room: &mut [u8]) -> First
         return First::Short(Fault::HeaderCut);
     }
     match headers::read(&s[0..n]) {
-        Header::Of(case) => answer_case(rt, case, n, s, room),
-        Header::Bad(fault) => First::Bad(Fault::Header(fault)),
+        Ok(case) => answer_case(rt, case, n, s, room),
+        Err(fault) => First::Bad(Fault::Header(fault)),
     }
 }
 
 // Ends a run whose stream is broken: says what is wrong with the case that some bytes begin with. The
 // run is hindered whether or not its last line is written.
 fn end_broken(rt: &(impl Print + Eprint), place: Place, fault: Fault, s: &[u8]) -> Ending {
-    stream::print(rt, b"bad header\n");
+    let _ = stream::print(rt, b"bad header\n");
     let n = line_length(s);
     broken::tell_broken(rt, place, fault, headers::word(&s[0..n], 1));
     Ending::Hindered
@@ -105,7 +92,7 @@ fn end_broken(rt: &(impl Print + Eprint), place: Place, fault: Fault, s: &[u8]) 
 
 // Ends a run at the end of its input, where no byte of a case may be left.
 fn end_input(rt: &(impl Print + Eprint), place: Place, lack: Fault, left: &[u8]) -> Ending {
-    if left.len() == 0 {
+    if left.is_empty() {
         return Ending::Well;
     }
     end_broken(rt, place, lack, left)
@@ -120,22 +107,27 @@ fn unread_of<'a>(window: &'a [u8], u: Unread) -> &'a [u8]
     &window[from..to]
 }
 
-// Reads on, where a case is not all there.
-fn read_more(rt: &(impl Input + Print + Eprint), window: &mut [u8], run: Run, lack: Fault) -> Turn
+// Reads on, where a case is not all there. The run goes on from where it is, or breaks off with its ending.
+fn read_more(
+    rt: &(impl Input + Print + Eprint),
+    window: &mut [u8],
+    run: Run,
+    lack: Fault,
+) -> ControlFlow<Ending, Run>
     requires { Within window.old run.unread.from run.unread.to }
     ensures { StaysIn window.new result }
 {
     let place = run.place;
     match stream::more(rt, b"nightly", window, run.unread) {
-        Reading::Came(u) => Turn::On(Run {
+        Reading::Came(u) => ControlFlow::Continue(Run {
             unread: u,
             place: place,
         }),
-        Reading::Ended(u) => Turn::Over(end_input(rt, place, lack, unread_of(window, u))),
+        Reading::Ended(u) => ControlFlow::Break(end_input(rt, place, lack, unread_of(window, u))),
         Reading::Full(u) => {
-            Turn::Over(end_broken(rt, place, Fault::HeaderLong, unread_of(window, u)))
+            ControlFlow::Break(end_broken(rt, place, Fault::HeaderLong, unread_of(window, u)))
         }
-        Reading::Failed => Turn::Over(Ending::Hindered),
+        Reading::Failed => ControlFlow::Break(Ending::Hindered),
     }
 }
 
@@ -145,7 +137,7 @@ fn one_turn(
     window: &mut [u8],
     room: &mut [u8],
     run: Run,
-) -> Turn
+) -> ControlFlow<Ending, Run>
     requires { Within window.old run.unread.from run.unread.to }
     ensures { StaysIn window.new result }
 {
@@ -153,7 +145,7 @@ fn one_turn(
     let from = run.unread.from;
     let to = run.unread.to;
     match answer_first(rt, &window[from..to], room) {
-        First::Took(n) => Turn::On(Run {
+        First::Took(n) => ControlFlow::Continue(Run {
             unread: Unread {
                 from: from + n,
                 to: to,
@@ -161,27 +153,21 @@ fn one_turn(
             place: place.past(n),
         }),
         First::Short(lack) => read_more(rt, window, run, lack),
-        First::Bad(fault) => Turn::Over(end_broken(rt, place, fault, &window[from..to])),
-        First::Unwritten => Turn::Over(Ending::Hindered),
+        First::Bad(fault) => ControlFlow::Break(end_broken(rt, place, fault, &window[from..to])),
+        First::Unwritten => ControlFlow::Break(Ending::Hindered),
     }
 }
 
-// A proved loop has to end, and nothing says that the input does. So the loop counts its turns down, from a number that no run uses up.
+// A proved loop has to end, and nothing says that the input does. So the loop makes so many turns that no run uses them up.
 fn go_through(rt: &(impl Input + Print + Eprint), window: &mut [u8], room: &mut [u8]) -> Ending {
-    let mut turns = u64::MAX;
     let mut run = Run {
         unread: Unread { from: 0, to: 0 },
         place: Place { case: 1, at: 0 },
     };
-    while 0 < turns {
+    for _ in 0..u64::MAX {
         match one_turn(rt, window, room, run) {
-            Turn::On(next) => {
-                run = next;
-                turns -= 1;
-            }
-            Turn::Over(ending) => {
-                return ending;
-            }
+            ControlFlow::Continue(next) => run = next,
+            ControlFlow::Break(ending) => return ending,
         }
     }
     Ending::Hindered

@@ -1,7 +1,44 @@
 // The room that is lent for a result, bytes or cells. It holds a pattern before, which all past the result must keep.
 
-ghost use Rattle.std.specs.Prelude.{◌≡◌, drop, if◌then◌else◌};
+ghost use Rattle.std.specs.Prelude.{◌≡◌, ℕ, ◌==◌, drop, map};
 ghost use Rattle.nightly.specs.Room.{pattern as pattern_of, patterned, Filled};
+
+// What a room has many of: a number, which may be that of a byte.
+pub trait Cell: Copy {
+    ghost number: { Self → ℕ };
+
+    // The cell of a byte.
+    fn of(b: u8) -> Self
+        ensures { number result ≡ b };
+
+    // Whether it is that of a byte.
+    fn is(self, b: u8) -> bool
+        ensures { result ≡ (number self == b) };
+}
+
+impl Cell for u8 {
+    ghost number = { λ x. x };
+
+    fn of(b: u8) -> u8 {
+        b
+    }
+
+    fn is(self, b: u8) -> bool {
+        self == b
+    }
+}
+
+impl Cell for u64 {
+    ghost number = { λ x. x };
+
+    fn of(b: u8) -> u64 {
+        b as u64
+    }
+
+    fn is(self, b: u8) -> bool {
+        self == b as u64
+    }
+}
 
 // The pattern's byte at a place.
 fn pattern(place: usize) -> u8
@@ -11,51 +48,22 @@ fn pattern(place: usize) -> u8
 }
 
 // Fills the room with the pattern.
-pub fn fill(room: &mut [u8])
-    ensures { Filled room.old room.new }
+pub fn fill<T: Cell>(room: &mut [T])
+    ensures { Filled (map T.number room.old) (map T.number room.new) }
 {
-    let mut i = 0;
-    while i < room.len() {
-        room[i] = pattern(i);
-        i += 1;
+    for (i, cell) in room.iter_mut().enumerate() {
+        *cell = T::of(pattern(i));
     }
 }
 
-// 1 where the room holds the pattern from a place on, else 0.
-pub fn kept(room: &[u8], at: usize) -> usize
-    ensures { result ≡ (if patterned at (drop at room.now) then 1 else 0) }
+// Whether the room holds the pattern from a place on.
+pub fn kept<T: Cell>(room: &[T], at: usize) -> bool
+    ensures { result ≡ patterned at (drop at (map T.number room.now)) }
 {
-    let mut i = at;
-    while i < room.len() {
-        if room[i] != pattern(i) {
-            return 0;
+    for i in at..room.len() {
+        if !room[i].is(pattern(i)) {
+            return false;
         }
-        i += 1;
     }
-    1
-}
-
-// Fills cells with the pattern.
-pub fn fill_cells(cells: &mut [u64])
-    ensures { Filled cells.old cells.new }
-{
-    let mut i = 0;
-    while i < cells.len() {
-        cells[i] = pattern(i) as u64;
-        i += 1;
-    }
-}
-
-// 1 where the cells hold the pattern from a place on, else 0.
-pub fn kept_cells(cells: &[u64], at: usize) -> usize
-    ensures { result ≡ (if patterned at (drop at cells.now) then 1 else 0) }
-{
-    let mut i = at;
-    while i < cells.len() {
-        if cells[i] != pattern(i) as u64 {
-            return 0;
-        }
-        i += 1;
-    }
-    1
+    true
 }

@@ -11,8 +11,8 @@ use lib.ListN.{length, get_or}
 use borrow.Author.Tests.{ne_eqb, eqb-true, eqb-false, not-true, ltb-true, ltb-false}
 use Rattle.text.specs.Characters.{all, is_digit}
 use Rattle.text.specs.Order.{number_order, text_order, else}
-use Rattle.text.specs.declared.Order.{Order}
-use Rattle.text.specs.declared.Order.TheVariants.{Below, Equal, Above}
+use Rattle.std.specs.declared.cmp.Ordering.{Ordering}
+use Rattle.std.specs.declared.cmp.Ordering.TheVariants.{Less, Equal, Greater}
 use Rattle.text.proofs.Orders.{number_below, number_above, number_equal}
 use Rattle.number.specs.Numbers.{number, number_from, minus, unsigned, signed, plain, int_form, int_value}
 use Rattle.number.specs.Numbers.{digits}
@@ -48,15 +48,15 @@ one_digit v w x y a b c d = go (stand v w) (stand x y)
     go (equal h) (above k) = rw (number_same v w h, number_above x y k) (number_above _ _ (omega arith))
     go (equal h) (equal k) = rw (number_same v w h, number_same x y k) (number_same _ _ (omega arith))
 
-else_equal : (o : Order) → else o Equal ≡ o
-else_equal Below = refl
+else_equal : (o : Ordering) → else o Equal ≡ o
+else_equal Less = refl
 else_equal Equal = refl
-else_equal Above = refl
+else_equal Greater = refl
 
-pub else_else : (a b c : Order) → else (else a b) c ≡ else a (else b c)
-else_else Below b c = refl
+pub else_else : (a b c : Ordering) → else (else a b) c ≡ else a (else b c)
+else_else Less b c = refl
 else_else Equal b c = refl
-else_else Above b c = refl
+else_else Greater b c = refl
 
 -- as many digits: by byte is by value
 pub as_long : (v w : ℕ) (a b : List ℕ) → length a ≡ length b → all is_digit a ≡ true → all is_digit b ≡ true
@@ -69,12 +69,12 @@ as_long v w (x ∷ a) (y ∷ b) h p q =
     let dx = and_left (is_digit x) (all is_digit a) p in
     let dy = and_left (is_digit y) (all is_digit b) q in
     sym (else_else (number_order v w) (number_order x y) (text_order a b))
-    ∙ ap (λ (o : Order). else o (text_order a b)) (sym (one_digit v w x y (digit_low x dx) (digit_high x dx) (digit_low y dy) (digit_high y dy)))
+    ∙ ap (λ (o : Ordering). else o (text_order a b)) (sym (one_digit v w x y (digit_low x dx) (digit_high x dx) (digit_low y dy) (digit_high y dy)))
     ∙ as_long (v * 10 + (x - 48)) (w * 10 + (y - 48)) a b (omega arith) (and_right (is_digit x) (all is_digit a) p) (and_right (is_digit y) (all is_digit b) q)
 
 pub as_many : (a b : List ℕ) → length a ≡ length b → all is_digit a ≡ true → all is_digit b ≡ true
     → text_order a b ≡ number_order (number a) (number b)
-as_many a b h p q = ap (λ (o : Order). else o (text_order a b)) (sym (number_same 0 0 refl)) ∙ as_long 0 0 a b h p q
+as_many a b h p q = ap (λ (o : Ordering). else o (text_order a b)) (sym (number_same 0 0 refl)) ∙ as_long 0 0 a b h p q
 
 -- a number is at least what stood before, moved up by its digits
 lower : (v : ℕ) (d : List ℕ) → v * 10 ^ length d ≤ number_from v d
@@ -164,12 +164,12 @@ below_order (suc m) (suc n) h k = go (stand n m)
     go (above e) = number_above n m e ∙ sym (number_above (suc n) (suc m) (omega arith))
     go (equal e) = number_same n m e ∙ sym (number_same (suc n) (suc m) (omega arith))
 
-below_above : (m n : ℕ) → 0 < m → value_order (neg_ℤ (pos m)) (pos n) ≡ Below
+below_above : (m n : ℕ) → 0 < m → value_order (neg_ℤ (pos m)) (pos n) ≡ Less
 unfolding value_order
 below_above zero n h = absurd (omega arith)
 below_above (suc m) n h = refl
 
-above_below : (m n : ℕ) → 0 < n → value_order (pos m) (neg_ℤ (pos n)) ≡ Above
+above_below : (m n : ℕ) → 0 < n → value_order (pos m) (neg_ℤ (pos n)) ≡ Greater
 unfolding value_order
 above_below m zero h = absurd (omega arith)
 above_below m (suc n) h = refl

@@ -59,11 +59,6 @@ module _ (s : List ℕ) (i : ℕ) (h : i < length s) where
   pub number_next : (v : ℕ) → number_from v (drop i s) ≡ number_from (v * 10 + (get_or s i 0 - 48)) (drop (i + 1) s)
   number_next v = rw (add-one, drop-cons s i 0 h)
 
-pub no_minus : (s : List ℕ) → length s ≡ 0 → false ≡ minus s
-unfolding minus
-no_minus [] e = refl
-no_minus (x ∷ s) e = absurd (omega arith)
-
 pub number_end : (v : ℕ) (s : List ℕ) (i : ℕ) → length s ≤ i → number_from v (drop i s) ≡ v
 number_end v s i h = rw (drop_of_length-le s h)
 

@@ -6,16 +6,17 @@ use Prim.Native.Nat.{ℕ, suc, ◌+◌, ◌-◌, ◌*◌, ◌%◌, ◌^◌, ◌�
 use native.Mathlib.Nat.{sub-zero, le_trans, mod-lt, mul_assoc, mul-le-mul_left, mul-le-mul_right, pow-succ', pow-le-pow_right, one-le-pow}
 use native.Mathlib.Omega.{arith}
 use lib.Bits.{bit_or}
-use lib.Dec.{ltb, leb, lit<}
+use lib.Dec.{ltb, leb, eqb, lit<}
 use lib.ListN.{length, get_or, drop}
 use lib.Pow.{pow-add}
 use borrow.Author.Tests.{lt-ltb, le-ltb, ltb-true, ltb-false, le-leb, lt-leb}
 use Rattle.text.specs.Characters.{all, is_digit}
 use Rattle.text.proofs.Lists.{all_here, all_end}
 use Rattle.text.proofs.Ors.{or_below, grouped}
-use Rattle.number.specs.Numbers.{number_from}
-use Rattle.number.specs.Leaves.{spelt_from}
-use Rattle.number.specs.declared.Spelt.TheVariants.{Digits, Other}
+use Rattle.number.specs.Numbers.{number_from, number, plain, spelled}
+use Rattle.number.specs.Leaves.{leads, spelt_from}
+use Rattle.std.specs.Prelude.{Some, None}
+use Rattle.std.specs.Option.{option_eq}
 use Rattle.number.proofs.Digits.{upper, and_left, and_right, digit_low, digit_high, number_next, number_end}
 
 -- the two marks of a byte are small where it is a digit
@@ -108,19 +109,19 @@ module _ (v : ℕ) (d : List ℕ) (n marks i : ℕ) (p : Passed v d n marks i) w
   pass_number h k = sym (number_end n d i h) ∙ p.spells k
 
 -- what an answer of the pass says
-spelt_by : (t : Bool) (x n : ℕ) → cond t (Digits x) Other ≡ Digits n → (t ≡ true) × (x ≡ n)
+spelt_by : (t : Bool) (x n : ℕ) → cond t (Some x) None ≡ Some n → (t ≡ true) × (x ≡ n)
 spelt_by true x n e = (refl, cc)
 spelt_by false x n e = let z : ◌≡◌ {A = ℕ} 0 1 = cc in absurd (omega arith)
 
-other_by : (t : Bool) (x : ℕ) → cond t (Digits x) Other ≡ Other → t ≡ false
+other_by : (t : Bool) (x : ℕ) → cond t (Some x) None ≡ None → t ≡ false
 other_by true x e = let z : ◌≡◌ {A = ℕ} 0 1 = cc in absurd (omega arith)
 other_by false x e = refl
 
 module _ (v : ℕ) (d : List ℕ) where
-  pub spelt_other : spelt_from v d ≡ Other → all is_digit d ≡ false
+  pub spelt_other : spelt_from v d ≡ None → all is_digit d ≡ false
   spelt_other e = other_by (all is_digit d) (number_from v d) e
 
-  module _ (n : ℕ) (e : spelt_from v d ≡ Digits n) where
+  module _ (n : ℕ) (e : spelt_from v d ≡ Some n) where
     pub spelt_digits : all is_digit d ≡ true
     spelt_digits = (spelt_by (all is_digit d) (number_from v d) n e).0
 
@@ -138,9 +139,22 @@ pub room_18 : (d : List ℕ) → length d ≤ 18 → (0 + 2) * 10 ^ length d ≤
 room_18 d h = mul-le-mul_left 2 (pow-le-pow_right {n = 10} (lit< tt) {i = length d} {j = 18} h)
 
 -- in all, where some of them are read
-pub room_two : (a b : List ℕ) (n : ℕ) → spelt_from 0 a ≡ Digits n → length a + length b ≤ 18 → (n + 2) * 10 ^ length b ≤ 2 * 10 ^ 18
+pub room_two : (a b : List ℕ) (n : ℕ) → spelt_from 0 a ≡ Some n → length a + length b ≤ 18 → (n + 2) * 10 ^ length b ≤ 2 * 10 ^ 18
 room_two a b n e h =
     let some : n < 1 * 10 ^ length a = rw (sym (spelt_number 0 a n e)) (upper 0 a (spelt_digits 0 a n e)) in
     let double : n + 2 ≤ 2 * 10 ^ length a = omega arith in
     le_trans (mul-le-mul_right (10 ^ length b) double)
     (rw (mul_assoc 2 (10 ^ length a) (10 ^ length b), ← pow-add) (mul-le-mul_left 2 (pow-le-pow_right {n = 10} (lit< tt) {i = length a + length b} {j = 18} h)))
+
+-- what spells n, as the code tests it: the length, the first digit, the pass over all of them
+equals_spelt : (b t : Bool) (x n : ℕ) → (b && t && eqb x n) ≡ (b && option_eq eqb (cond t (Some x) None) (Some n))
+equals_spelt false t x n = refl
+equals_spelt true true x n = refl
+equals_spelt true false x n = refl
+
+pub spelled_is : (n : ℕ) (s : List ℕ) → spelled n s ≡ (leb (length s) 10 && (leads s && option_eq eqb (spelt_from 0 s) (Some n)))
+unfolding spelled plain
+spelled_is n s = ap (λ (b : Bool). leb (length s) 10 && b) (equals_spelt (leads s) (all is_digit s) (number s) n)
+
+-- the laws of a pass over digits
+pub ruleset spelling = (spelt_other, spelt_digits, spelt_number, spelt_small, room_18, room_two)

@@ -11,8 +11,8 @@ use lib.ListN.{length, get_or, length-append, get_or-append}
 use borrow.Author.Tests.{eq-eqb, ne_eqb, le-leb, eqb-true, lt-ltb, ltb-true, ltb-false}
 use Rattle.text.specs.Characters.{all, is_digit}
 use Rattle.text.specs.Order.{number_order, text_order, else}
-use Rattle.text.specs.declared.Order.{Order}
-use Rattle.text.specs.declared.Order.TheVariants.{Below, Equal, Above}
+use Rattle.std.specs.declared.cmp.Ordering.{Ordering}
+use Rattle.std.specs.declared.cmp.Ordering.TheVariants.{Less, Equal, Greater}
 use Rattle.text.proofs.Orders.{text_order_same}
 use Rattle.number.specs.Numbers.{number, minus, unsigned, plain, int_form, int_value, spelled, decimal_in, decimal}
 use Rattle.number.specs.Order.{digits_order, whole_order, value_order}
@@ -21,10 +21,10 @@ use Rattle.number.proofs.Digits.{form_above}
 use Rattle.number.proofs.ByValue.{number_same, bare_is, no_sign, digits_by_value, by_value}
 
 -- where the whole order is Equal, so is the later one
-else_same : (o later : Order) → else o later ≡ Equal → later ≡ Equal
-else_same Below later e = let z : ◌≡◌ {A = ℕ} 0 1 = cc in absurd (omega arith)
+else_same : (o later : Ordering) → else o later ≡ Equal → later ≡ Equal
+else_same Less later e = let z : ◌≡◌ {A = ℕ} 0 1 = cc in absurd (omega arith)
 else_same Equal later e = e
-else_same Above later e = let z : ◌≡◌ {A = ℕ} 0 1 = cc in absurd (omega arith)
+else_same Greater later e = let z : ◌≡◌ {A = ℕ} 0 1 = cc in absurd (omega arith)
 
 digits_same : (a b : List ℕ) → digits_order a b ≡ Equal → a ≡ b
 unfolding digits_order
@@ -49,11 +49,11 @@ unfolding whole_order
 whole_same a b true true e f h =
     minus_first a e ∙ ap (λ (d : List ℕ). 45 ∷ d) (sym (digits_same (unsigned b) (unsigned a) (rw (e, f) at h))) ∙ sym (minus_first b f)
 whole_same a b true false e f h =
-    let k : Below ≡ Equal = rw (e, f) at h in
+    let k : Less ≡ Equal = rw (e, f) at h in
     let z : ◌≡◌ {A = ℕ} 0 1 = cc in
     absurd (omega arith)
 whole_same a b false true e f h =
-    let k : Above ≡ Equal = rw (e, f) at h in
+    let k : Greater ≡ Equal = rw (e, f) at h in
     let z : ◌≡◌ {A = ℕ} 0 1 = cc in
     absurd (omega arith)
 whole_same a b false false e f h = digits_same a b (rw (e, f) at h)

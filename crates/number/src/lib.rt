@@ -8,91 +8,62 @@ ghost use Rattle.number.specs.Calendar.{leap, days_in, is_day, is_date, is_time}
 ghost use Rattle.number.specs.Order.{digits_order, whole_order};
 ghost use Rattle.number.specs.Leaves.{leads, spelt_from};
 
-use text::Order;
-
-// What a pass over digits finds: the number that they spell, or a byte that is no digit.
-#[derive(Clone, Copy)]
-pub enum Spelt {
-    Digits(u64),
-    Other,
-}
+use std::cmp::Ordering;
 
 // Each byte is a digit.
 pub fn all_digits(s: &[u8]) -> bool
     ensures { result ≡ all is_digit s.now }
 {
-    let mut i = 0;
-    while i < s.len() {
-        if s[i] < 48 {
-            return false;
-        }
-        if 57 < s[i] {
-            return false;
-        }
-        i += 1;
-    }
-    true
-}
-
-// A byte as a number of 64 bits.
-fn wide(b: u8) -> u64
-    ensures { result ≡ b }
-{
-    b as u64
+    s.iter().all(|b| b.is_ascii_digit())
 }
 
 // Digits tested and read in one pass, after digits that spell `v`. Each byte leaves its mark in `marks`, which is
 // tested once: 303 - b is below 256 from 48 on, and b + 198 up to 57. A byte's last four bits are its digit.
-pub fn read_digits(v: u64, d: &[u8]) -> Spelt
+pub fn read_digits(v: u64, d: &[u8]) -> Option<u64>
     requires { (v + 2) * 10 ^ length d.now ≤ 2 * 10 ^ 18 }
     ensures { result ≡ spelt_from v d.now }
 {
     let mut n = v;
     let mut marks: u64 = 0;
-    let mut i = 0;
-    while i < d.len() {
-        let b = wide(d[i]);
+    for byte in d {
+        let b = u64::from(*byte);
         marks = marks | (303 - b) | (b + 198);
         n = n * 10 + b % 16;
-        i += 1;
     }
     if 256 <= marks {
-        return Spelt::Other;
+        return None;
     }
-    Spelt::Digits(n)
+    Some(n)
 }
 
 // The first byte is a minus.
+#[tactic(auto, unfolding(crate::specs::Numbers::minus))]
 pub fn minus(s: &[u8]) -> bool
     ensures { result ≡ minus_of s.now }
 {
-    if s.len() == 0 {
-        return false;
-    }
-    s[0] == 45
+    matches!(s, [b'-', ..])
 }
 
 // The bytes after the minus, if there is one.
+#[tactic(auto, unfolding(crate::specs::Numbers::minus, crate::specs::Numbers::unsigned))]
 pub fn unsigned<'a>(s: &'a [u8]) -> &'a [u8]
     ensures { result.now ≡ unsigned_of s.now }
 {
-    if minus(s) {
-        return &s[1..];
+    match s {
+        [b'-', digits @ ..] => digits,
+        _ => s,
     }
-    s
 }
 
 // One byte or more, and no zero before another.
 pub fn leads_right(d: &[u8]) -> bool
     ensures { result ≡ leads d.now }
 {
-    if d.len() == 0 {
-        return false;
+    match d {
+        [] => false,
+        [_] => true,
+        [first, ..] => *first != b'0',
     }
-    if d.len() == 1 {
-        return true;
-    }
-    d[0] != 48
 }
 
 // A magnitude with its sign; within 63 bits the negation cannot wrap.
@@ -101,82 +72,58 @@ pub fn signed(below: bool, v: u64) -> i64
     ensures { result ≡ signed_of below v }
 {
     let x = v as i64;
-    if below { 0 - x } else { x }
+    if below { -x } else { x }
 }
 
 // Each byte is the digit 0.
 pub fn all_zero(s: &[u8]) -> bool
     ensures { result ≡ all is_zero s.now }
 {
-    let mut i = 0;
-    while i < s.len() {
-        if s[i] != 48 {
-            return false;
-        }
-        i += 1;
-    }
-    true
+    s.iter().all(|b| *b == b'0')
 }
 
 // The bytes are the one spelling of v, in at most 10 digits.
+#[tactic(auto, using(crate::proofs::OnePass::spelled_is))]
 pub fn spells(s: &[u8], v: u64) -> bool
     ensures { result ≡ spelled v s.now }
 {
-    if 10 < s.len() {
-        return false;
-    }
-    if !leads_right(s) {
-        return false;
-    }
-    match read_digits(0, s) {
-        Spelt::Digits(n) => n == v,
-        Spelt::Other => false,
-    }
+    s.len() <= 10 && leads_right(s) && read_digits(0, s) == Some(v)
 }
 
 // Two numbers without sign and leading zero: more digits is above.
-pub fn digits_order(a: &[u8], b: &[u8]) -> Order
+#[tactic(auto, unfolding(crate::specs::Order::digits_order, text::specs::Order::number_order))]
+pub fn digits_order(a: &[u8], b: &[u8]) -> Ordering
     ensures { result ≡ digits_order a.now b.now }
 {
-    if a.len() < b.len() {
-        return Order::Below;
+    match a.len().cmp(&b.len()) {
+        Ordering::Equal => text::text_order(a, b),
+        other => other,
     }
-    if b.len() < a.len() {
-        return Order::Above;
-    }
-    text::text_order(a, b)
 }
 
 // Two numbers that may have a sign: those below zero stand below, and the other way round among themselves.
-pub fn whole_order(a: &[u8], b: &[u8]) -> Order
+#[tactic(auto, unfolding(crate::specs::Order::whole_order, crate::specs::Numbers::minus, crate::specs::Numbers::unsigned))]
+pub fn whole_order(a: &[u8], b: &[u8]) -> Ordering
     ensures { result ≡ whole_order a.now b.now }
 {
-    if minus(a) {
-        if minus(b) {
-            return digits_order(&b[1..], &a[1..]);
-        }
-        return Order::Below;
+    match (a, b) {
+        ([b'-', a_digits @ ..], [b'-', b_digits @ ..]) => digits_order(b_digits, a_digits),
+        ([b'-', ..], _) => Ordering::Less,
+        (_, [b'-', ..]) => Ordering::Greater,
+        _ => digits_order(a, b),
     }
-    if minus(b) {
-        return Order::Above;
-    }
-    digits_order(a, b)
 }
 
 // Each fourth year but each hundredth, and each four hundredth after all.
+#[tactic(auto, unfolding(crate::specs::Calendar::leap))]
 pub fn is_leap(y: u64) -> bool
     ensures { result ≡ leap y }
 {
-    if y % 4 != 0 {
-        return false;
-    }
-    if y % 100 != 0 {
-        return true;
-    }
-    y % 400 == 0
+    y % 4 == 0 && (y % 100 != 0 || y % 400 == 0)
 }
 
 // February has 28 days, 29 in a leap year; April, June, September and November 30; the others 31.
+#[tactic(auto, unfolding(crate::specs::Calendar::days_in))]
 pub fn days_in(y: u64, m: u64) -> u64
     ensures { result ≡ days_in y m }
 {
@@ -188,28 +135,15 @@ pub fn days_in(y: u64, m: u64) -> u64
 }
 
 // Day d of month m of year y is in the calendar.
+#[tactic(auto, unfolding(crate::specs::Calendar::is_day))]
 pub fn is_day(y: u64, m: u64, d: u64) -> bool
     ensures { result ≡ is_day y m d }
 {
-    if y < 1 {
-        return false;
-    }
-    if 9999 < y {
-        return false;
-    }
-    if m < 1 {
-        return false;
-    }
-    if 12 < m {
-        return false;
-    }
-    if d < 1 {
-        return false;
-    }
-    d <= days_in(y, m)
+    1 <= y && y <= 9999 && 1 <= m && m <= 12 && 1 <= d && d <= days_in(y, m)
 }
 
 // YYYYMMDD as one number.
+#[tactic(auto, unfolding(crate::specs::Calendar::is_date))]
 pub fn is_date(v: u64) -> bool
     ensures { result ≡ is_date v }
 {
@@ -217,14 +151,9 @@ pub fn is_date(v: u64) -> bool
 }
 
 // hhmmss as one number.
+#[tactic(auto, unfolding(crate::specs::Calendar::is_time))]
 pub fn is_time(v: u64) -> bool
     ensures { result ≡ is_time v }
 {
-    if 23 < v / 10000 {
-        return false;
-    }
-    if 59 < v / 100 % 100 {
-        return false;
-    }
-    v % 100 <= 59
+    v / 10000 <= 23 && v / 100 % 100 <= 59 && v % 100 <= 59
 }

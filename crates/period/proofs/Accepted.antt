@@ -13,7 +13,7 @@ use Rattle.text.specs.Order.{same_bytes}
 use Rattle.text.proofs.Lists.{same→≡}
 use Rattle.text.proofs.Tests.{holds}
 use Rattle.record.specs.Records.{records, field, bar}
-use Rattle.field.specs.declared.FieldAnswer.TheVariants as answers
+use Rattle.field.specs.declared.Content.TheVariants.{Number}
 use Rattle.layout.specs.Layout.{Layout}
 use Rattle.flow.specs.Letters.{GSP, GS2, P0012001}
 use Rattle.flow.specs.Publication.{Flow, layout_for}
@@ -22,11 +22,11 @@ use Rattle.flow.specs.Editions.{Asked, a_flow, name_in, asked}
 use Rattle.flow.proofs.Proper.{held_proper}
 use Rattle.judge.specs.File.{judged_by, judged, accepted}
 use Rattle.judge.specs.Right.{kind_in, RightFor}
-use Rattle.judge.specs.declared.Verdict.{Verdict}
-use Rattle.judge.specs.declared.Verdict.TheVariants as verdicts
+use Rattle.judge.specs.declared.Unplaced.{Unplaced}
 use Rattle.judge.proofs.Demand2.{right_for, accepted_flow}
 use Rattle.judge.proofs.RightFields.{no_refusal}
-use Rattle.period.specs.Answer.{period_of, has_a_period, period_in, some_stops, up_to, some_has, read_up_to, yes_or_no, answered, has_by, has_for, truth, paper, has_period}
+use Rattle.std.specs.Prelude.{Result, Ok, Err}
+use Rattle.period.specs.Answer.{period_of, has_a_period, period_in, some_stops, up_to, some_has, read_up_to, answered, has_by, has_for, truth, paper, has_period}
 use Rattle.period.specs.Full.{OfPeriod, InFile}
 use Rattle.period.proofs.Periods.{number_said, said_answer, given_period}
 use Rattle.period.proofs.Fronts.{stop_in_records, no_stop_all}
@@ -94,7 +94,7 @@ module _ (p : ℕ) (some : 1 ≤ p) (r : List ℕ) where
       let is = sym (is_field kind) ∙ e in
       record {
         kind = as_kind (kind_told (same_bytes GSP (kind_in r)) (same_bytes GS2 (kind_in r)) kind);
-        period = given_period (field bar 2 r) (omega (arith, some, is)) ∙ ap (λ (n : ℕ). answers.Number (pos n)) is;
+        period = given_period (field bar 2 r) (omega (arith, some, is)) ∙ ap (λ (n : ℕ). Ok (Number (pos n))) is;
       }
 
   has_kind : (kind_in r ≡ GSP) ⊎ (kind_in r ≡ GS2) → has_a_period (kind_in r) ≡ true
@@ -133,25 +133,24 @@ module _ (f : List ℕ) (n : ℕ) (right : RightFor p0012 f n) (p : ℕ) (some :
   read_enough = enough_by (some_stops p (records f)) refl
 
 -- an accepted file is answered
-module _ (l : Layout) (f : List ℕ) (n : ℕ) (e : judged_by l f ≡ verdicts.Accepted n) (p : ℕ) where
-  answered_by : (v : Verdict) → read_up_to l f p ≡ v → answered f v (some_has p (up_to p (records f))) ≡ yes_or_no (some_has p (up_to p (records f)))
-  answered_by (verdicts.Accepted m) w = refl
-  answered_by (verdicts.Refused x r k) w = absurd (no_refusal (sym (early_refusal l f p x r k w) ∙ e))
+module _ (l : Layout) (f : List ℕ) (n : ℕ) (e : judged_by l f ≡ Ok n) (p : ℕ) where
+  answered_by : (v : Result ℕ Unplaced) → read_up_to l f p ≡ v → answered f v (some_has p (up_to p (records f))) ≡ Ok (some_has p (up_to p (records f)))
+  answered_by (Ok m) w = refl
+  answered_by (Err r) w = absurd (no_refusal (sym (early_refusal l f p r w) ∙ e))
 
-  is_answered : has_by l f p ≡ yes_or_no (some_has p (up_to p (records f)))
+  is_answered : has_by l f p ≡ Ok (some_has p (up_to p (records f)))
   unfolding has_by
   is_answered = answered_by (read_up_to l f p) refl
 
-said : (b : Bool) → paper (yes_or_no b) ≡ truth b
-said true = refl
-said false = refl
+said : (b : Bool) → paper (Ok b) ≡ truth b
+said b = refl
 
 same_truth : {a b : Bool} → truth a ≡ truth b → a ≡ b
 same_truth e = cc
 
 -- for a file that is accepted for P0012001 and a period from 1 to 50
 module _ (words f : List ℕ) (n : ℕ) (e : judged (asked words) f ≡ accepted n) (named : name_in words ≡ P0012001) (p : ℕ) (some : 1 ≤ p) (most : p ≤ 50) where
-  flow_is : (asked words ≡ a_flow p0012) × (judged_by (layout_for p0012) f ≡ verdicts.Accepted n)
+  flow_is : (asked words ≡ a_flow p0012) × (judged_by (layout_for p0012) f ≡ Ok n)
   flow_is =
       let x = accepted_flow f n (asked words) e in
       let is = asks_p0012 words x.0 x.1 named in

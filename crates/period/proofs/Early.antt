@@ -19,53 +19,53 @@ use Rattle.layout.specs.Layout.{Layout}
 use Rattle.flow.specs.Letters.{P0012001}
 use Rattle.flow.specs.Publication.{Flow, layout_for}
 use Rattle.flow.specs.Editions.{Asked, a_flow, no_flow}
-use Rattle.fault.specs.declared.Check.{Check}
-use Rattle.fault.specs.declared.Check.TheVariants.{Fine, Fault}
+use Rattle.fault.specs.Fields.{Check}
 use Rattle.judge.specs.Record.{fault, last_kind}
-use Rattle.judge.specs.File.{at_record, checked_from, ends_in_feed, ended, finish, judged_by, with_place}
+use Rattle.judge.specs.File.{unplaced, at_record, checked_from, ends_in_feed, ended, finish, judged_by, with_place}
 use Rattle.judge.specs.File.{judged_for, judged, paper as said}
 use Rattle.judge.specs.File as readers
-use Rattle.judge.specs.declared.Verdict.{Verdict}
-use Rattle.judge.specs.declared.Verdict.TheVariants as verdicts
-use Rattle.period.specs.Answer.{period_in, some_stops, up_to, some_has, at_end, read_up_to, yes_or_no, answered, has_by, has_for, Reply, refused, truth, paper, has_period}
-use Rattle.period.specs.declared.Answer.{Answer}
-use Rattle.period.specs.declared.Answer.TheVariants.{Refused, Yes, No}
+use Rattle.judge.specs.declared.Unplaced.{Unplaced}
+use Rattle.judge.proofs.RightFields.{no_refusal}
+use Rattle.period.specs.Answer.{period_in, some_stops, up_to, some_has, at_end, read_up_to, answered, has_by, has_for, Reply, refused, truth, paper, has_period}
+use Rattle.std.specs.Prelude.{Result, Ok, Err}
+use Rattle.place.specs.declared.Refusal.{Refusal}
 use Rattle.period.proofs.Stops.{here_stops, here_ends, later_stops, later_ends}
 use Rattle.period.proofs.Reading.{stop_answer}
 use Rattle.period.proofs.Fronts.{stop_in_records, no_stop_all}
 
 -- records refused stay so, whatever stands behind them, and the record that is refused is one of them
 module _ (l : Layout) where
-  fault_stays : (n number r k : ℕ) (c : Check) (now later : Verdict) → (now ≡ verdicts.Refused number r k → later ≡ verdicts.Refused number r k)
-      → at_record n c now ≡ verdicts.Refused number r k → at_record n c later ≡ verdicts.Refused number r k
-  fault_stays n number r k Fine now later ih e = ih e
-  fault_stays n number r k (Fault x f) now later ih e = e
+  fault_stays : (n : ℕ) (r : Unplaced) (c : Check) (now later : Result ℕ Unplaced) → (now ≡ Err r → later ≡ Err r)
+      → at_record n c now ≡ Err r → at_record n c later ≡ Err r
+  fault_stays n r (Ok nothing) now later ih e = ih e
+  fault_stays n r (Err x) now later ih e = e
 
-  pub refused_stays : (before rs behind : List (List ℕ)) (number r k : ℕ) → checked_from bar l before rs ≡ verdicts.Refused number r k
-      → checked_from bar l before (rs ++ behind) ≡ verdicts.Refused number r k
+  pub refused_stays : (before rs behind : List (List ℕ)) (r : Unplaced) → checked_from bar l before rs ≡ Err r
+      → checked_from bar l before (rs ++ behind) ≡ Err r
   unfolding checked_from
-  refused_stays before [] behind number r k e = absurd (let z : ◌≡◌ {A = ℕ} 0 1 = cc in omega arith)
-  refused_stays before (x ∷ rs) behind number r k e =
-      fault_stays (length before + 1) number r k (fault bar l before x) _ _ (refused_stays (before ++ x ∷ []) rs behind number r k) e
+  refused_stays before [] behind r e = absurd (no_refusal (sym e))
+  refused_stays before (x ∷ rs) behind r e =
+      fault_stays (length before + 1) r (fault bar l before x) _ _ (refused_stays (before ++ x ∷ []) rs behind r) e
 
   -- the record of a refusal stands among the records
   abbrev Among : List (List ℕ) → List (List ℕ) → ℕ → Type 0
   Among before rs r = (length before < r) × (r ≤ length before + length rs)
 
-  fault_among : (before : List (List ℕ)) (x : List ℕ) (rs : List (List ℕ)) (number r k : ℕ) (c : Check) (now : Verdict)
-      → (now ≡ verdicts.Refused number r k → Among (before ++ x ∷ []) rs r) → at_record (length before + 1) c now ≡ verdicts.Refused number r k → Among before (x ∷ rs) r
-  fault_among before x rs number r k Fine now ih e =
+  fault_among : (before : List (List ℕ)) (x : List ℕ) (rs : List (List ℕ)) (r : Unplaced) (c : Check) (now : Result ℕ Unplaced)
+      → (now ≡ Err r → Among (before ++ x ∷ []) rs r.«record») → at_record (length before + 1) c now ≡ Err r → Among before (x ∷ rs) r.«record»
+  fault_among before x rs r (Ok nothing) now ih e =
       let y = ih e in
       (omega (arith, y.0, length-append before (x ∷ [])), omega (arith, y.1, length-append before (x ∷ [])))
-  fault_among before x rs number r k (Fault m f) now ih e =
-      let here : length before + 1 ≡ r = cc in
+  fault_among before x rs r (Err fault) now ih e =
+      let same : unplaced fault.number (length before + 1) fault.field ≡ r = cc in
+      let here : length before + 1 ≡ r.«record» = ap (λ (u : Unplaced). u.«record») same in
       (omega (arith, here), omega (arith, here))
 
-  pub refused_among : (before rs : List (List ℕ)) (number r k : ℕ) → checked_from bar l before rs ≡ verdicts.Refused number r k → Among before rs r
+  pub refused_among : (before rs : List (List ℕ)) (r : Unplaced) → checked_from bar l before rs ≡ Err r → Among before rs r.«record»
   unfolding checked_from
-  refused_among before [] number r k e = absurd (let z : ◌≡◌ {A = ℕ} 0 1 = cc in omega arith)
-  refused_among before (x ∷ rs) number r k e =
-      fault_among before x rs number r k (fault bar l before x) _ (refused_among (before ++ x ∷ []) rs number r k) e
+  refused_among before [] r e = absurd (no_refusal (sym e))
+  refused_among before (x ∷ rs) r e =
+      fault_among before x rs r (fault bar l before x) _ (refused_among (before ++ x ∷ []) rs r) e
 
 -- what is behind the records that are read
 pub up_to_front : (p : ℕ) (rs : List (List ℕ)) → (behind : List (List ℕ)) × (up_to p rs ++ behind ≡ rs)
@@ -78,30 +78,30 @@ up_to_front p rs = by_stop (some_stops p rs) refl
     by_stop false e = ([], append-nil (up_to p rs) ∙ (no_stop_all p rs e).0)
 
 -- a refusal of the records read, or of the end where there is no stop, is the reader's own
-module _ (l : Layout) (f : List ℕ) (p number r k : ℕ) where
+module _ (l : Layout) (f : List ℕ) (p : ℕ) (r : Unplaced) where
   abbrev rs : List (List ℕ)
   rs = records f
 
-  abbrev end : Verdict
+  abbrev end : Result ℕ Unplaced
   end = ended l (length rs) (last_kind bar l rs) (ends_in_feed f)
 
-  early_records : (v w : Verdict) → checked_from bar l [] (up_to p rs) ≡ v → checked_from bar l [] rs ≡ w
-      → (b : Bool) → some_stops p rs ≡ b → finish v (cond b (verdicts.Accepted (length (up_to p rs))) end) ≡ verdicts.Refused number r k
-      → finish w end ≡ verdicts.Refused number r k
-  early_records (verdicts.Refused x n j) w e q b t h =
+  early_records : (v w : Result ℕ Unplaced) → checked_from bar l [] (up_to p rs) ≡ v → checked_from bar l [] rs ≡ w
+      → (b : Bool) → some_stops p rs ≡ b → finish v (cond b (Ok (length (up_to p rs))) end) ≡ Err r
+      → finish w end ≡ Err r
+  early_records (Err u) w e q b t h =
       let x = up_to_front p rs in
-      let stays = refused_stays l [] (up_to p rs) x.0 _ _ _ (e ∙ h) in
-      ap (λ (v : Verdict). finish v end) (sym q ∙ ap (checked_from bar l []) (sym x.1) ∙ stays)
-  early_records (verdicts.Accepted m) w e q true t h = absurd (let z : ◌≡◌ {A = ℕ} 0 1 = cc in omega arith)
-  early_records (verdicts.Accepted m) w e q false t h =
-      ap (λ (v : Verdict). finish v end) (sym q ∙ ap (checked_from bar l []) (sym (no_stop_all p rs t).0) ∙ e) ∙ h
+      let stays = refused_stays l [] (up_to p rs) x.0 _ (e ∙ h) in
+      ap (λ (v : Result ℕ Unplaced). finish v end) (sym q ∙ ap (checked_from bar l []) (sym x.1) ∙ stays)
+  early_records (Ok m) w e q true t h = absurd (no_refusal (sym h))
+  early_records (Ok m) w e q false t h =
+      ap (λ (v : Result ℕ Unplaced). finish v end) (sym q ∙ ap (checked_from bar l []) (sym (no_stop_all p rs t).0) ∙ e) ∙ h
 
-  early_file : (b : Bool) → must b (verdicts.Refused 2 0 0) (finish (checked_from bar l [] (up_to p rs)) (at_end l f p)) ≡ verdicts.Refused number r k
-      → must b (verdicts.Refused 2 0 0) (finish (checked_from bar l [] rs) end) ≡ verdicts.Refused number r k
+  early_file : (b : Bool) → must b (Err (unplaced 2 0 0)) (finish (checked_from bar l [] (up_to p rs)) (at_end l f p)) ≡ Err r
+      → must b (Err (unplaced 2 0 0)) (finish (checked_from bar l [] rs) end) ≡ Err r
   early_file true e = early_records (checked_from bar l [] (up_to p rs)) (checked_from bar l [] rs) refl refl (some_stops p rs) refl e
   early_file false e = e
 
-  pub early_refusal : read_up_to l f p ≡ verdicts.Refused number r k → judged_by l f ≡ verdicts.Refused number r k
+  pub early_refusal : read_up_to l f p ≡ Err r → judged_by l f ≡ Err r
   unfolding read_up_to judged_by
   early_refusal e = early_file (leb (length f) 1048576) e
 
@@ -115,20 +115,19 @@ module _ (fl : Flow) (named : same_bytes P0012001 fl.name ≡ true) (p : ℕ) (i
   unfolding has_period has_for
   asked_by_lem f = rw (named, in_range_lem)
 
-  no_answer : (b : Bool) {number r k place : ℕ} → paper (yes_or_no b) ≡ refused number r k place → ⊥
-  no_answer true e = let z : ◌≡◌ {A = ℕ} 0 1 = cc in omega arith
-  no_answer false e = let z : ◌≡◌ {A = ℕ} 0 1 = cc in omega arith
+  no_answer : (b : Bool) {number r k place : ℕ} → paper (Ok b) ≡ refused number r k place → ⊥
+  no_answer b e = let z : ◌≡◌ {A = ℕ} 0 1 = cc in omega arith
 
   pub reader_refuses : (f : List ℕ) (number r k place : ℕ) → has_period (a_flow fl) f p ≡ refused number r k place
       → judged (a_flow fl) f ≡ readers.refused number r k place
   unfolding has_by judged judged_for
   reader_refuses f number r k place e = by_verdict (read_up_to (layout_for fl) f p) refl (sym (asked_by_lem f) ∙ e)
     where
-      by_verdict : (v : Verdict) → read_up_to (layout_for fl) f p ≡ v → paper (answered f v (some_has p (up_to p (records f)))) ≡ refused number r k place
+      by_verdict : (v : Result ℕ Unplaced) → read_up_to (layout_for fl) f p ≡ v → paper (answered f v (some_has p (up_to p (records f)))) ≡ refused number r k place
           → judged (a_flow fl) f ≡ readers.refused number r k place
-      by_verdict (verdicts.Accepted n) w q = absurd (no_answer (some_has p (up_to p (records f))) q)
-      by_verdict (verdicts.Refused x n j) w q =
-          ap (λ (v : Verdict). said (with_place bar f v)) (early_refusal (layout_for fl) f p x n j w) ∙ as_said q
+      by_verdict (Ok n) w q = absurd (no_answer (some_has p (up_to p (records f))) q)
+      by_verdict (Err u) w q =
+          ap (λ (v : Result ℕ Unplaced). said (with_place bar f v)) (early_refusal (layout_for fl) f p u w) ∙ as_said q
 
 -- the place of a record is told by the records up to it
 module _ (front behind : List (List ℕ)) (f : List ℕ) (e : records f ≡ front ++ behind) (n k : ℕ) (some : 1 ≤ n) (few : n ≤ length front) where
@@ -141,15 +140,15 @@ module _ (front behind : List (List ℕ)) (f : List ℕ) (e : records f ≡ fron
 
 -- two files that agree up to the stop
 module _ (l : Layout) (p : ℕ) (f g : List ℕ) (same : up_to p (records f) ≡ up_to p (records g)) where
-  same_placed : (has : Bool) (v : Verdict) → checked_from bar l [] (up_to p (records f)) ≡ v → answered f v has ≡ answered g v has
-  same_placed has (verdicts.Accepted n) e = refl
-  same_placed has (verdicts.Refused x n j) e =
-      let there = refused_among l [] (up_to p (records f)) x n j e in
+  same_placed : (has : Bool) (v : Result ℕ Unplaced) → checked_from bar l [] (up_to p (records f)) ≡ v → answered f v has ≡ answered g v has
+  same_placed has (Ok n) e = refl
+  same_placed has (Err r) e =
+      let there = refused_among l [] (up_to p (records f)) r e in
       let u = up_to_front p (records f) in
       let w = up_to_front p (records g) in
-      let place = front_place (up_to p (records f)) u.0 f (sym u.1) n j (omega (arith, there.0)) (omega (arith, there.1)) in
-      let other = front_place (up_to p (records f)) w.0 g (sym w.1 ∙ ap (λ (r : List (List ℕ)). r ++ w.0) (sym same)) n j (omega (arith, there.0)) (omega (arith, there.1)) in
-      ap (λ (m : ℕ). Refused (refusal x n j m)) (place ∙ sym other)
+      let place = front_place (up_to p (records f)) u.0 f (sym u.1) r.«record» r.field (omega (arith, there.0)) (omega (arith, there.1)) in
+      let other = front_place (up_to p (records f)) w.0 g (sym w.1 ∙ ap (λ (r : List (List ℕ)). r ++ w.0) (sym same)) r.«record» r.field (omega (arith, there.0)) (omega (arith, there.1)) in
+      ap (λ (m : ℕ). Err (refusal r.number r.«record» r.field m)) (place ∙ sym other)
 
   pub same_answer : some_stops p (records f) ≡ true → some_stops p (records g) ≡ true → length f ≤ 1048576 → length g ≤ 1048576 → has_by l f p ≡ has_by l g p
   same_answer there other short small =
@@ -249,16 +248,14 @@ pub stops_early : (a : Asked) (s x y : List ℕ) (p : ℕ) → some_stops p (rec
 stops_early a s x y p there short small = cut_there a s x p there short ∙ sym (cut_there a s y p there small)
 
 -- the answer that says this
-abbrev answer : Reply → Answer
-answer (refused number r k place) = Refused (refusal number r k place)
-answer (truth true) = Yes
-answer (truth false) = No
+abbrev answer : Reply → Result Bool Refusal
+answer (refused number r k place) = Err (refusal number r k place)
+answer (truth b) = Ok b
 
-answer_paper : (x : Answer) → answer (paper x) ≡ x
-answer_paper (Refused r) = refl
-answer_paper Yes = refl
-answer_paper No = refl
+answer_paper : (x : Result Bool Refusal) → answer (paper x) ≡ x
+answer_paper (Err r) = refl
+answer_paper (Ok b) = refl
 
 -- two answers that say the same in the papers' terms are the same answer, so only one meets the promise of has
-pub one_answer : (x y : Answer) → paper x ≡ paper y → x ≡ y
+pub one_answer : (x y : Result Bool Refusal) → paper x ≡ paper y → x ≡ y
 one_answer x y e = same_said paper answer answer_paper x y e

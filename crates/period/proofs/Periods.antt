@@ -19,28 +19,31 @@ use Rattle.number.specs.Numbers.{number, minus, unsigned, plain, int_form}
 use Rattle.field.specs.Types.{form, range, period_range, value_of}
 use Rattle.field.specs.Judge.{bare, filled, field_answer}
 use Rattle.field.specs.declared.FieldType.TheVariants as types
-use Rattle.field.specs.declared.FieldAnswer.{FieldAnswer}
-use Rattle.field.specs.declared.FieldAnswer.TheVariants as answers
+use Rattle.field.specs.declared.Content.{Content}
+use Rattle.field.specs.declared.Content.TheVariants as contents
+use Rattle.field.specs.declared.Wrong.{Wrong}
+use Rattle.field.specs.declared.Wrong.TheVariants as wrongs
+use Rattle.std.specs.Prelude.{Result, Ok, Err}
 use Rattle.period.specs.Answer.{period_of}
 
 -- the number of an answer; 0 where there is none
-abbrev pub number_said : FieldAnswer → ℕ
-number_said (answers.Number z) = nat_abs z
-number_said (answers.Refused n) = 0
-number_said answers.Empty = 0
-number_said (answers.Truth b) = 0
-number_said answers.Text = 0
+abbrev pub number_said : Result Content Wrong → ℕ
+number_said (Ok (contents.Number z)) = nat_abs z
+number_said (Err wrong) = 0
+number_said (Ok contents.Empty) = 0
+number_said (Ok (contents.Truth b)) = 0
+number_said (Ok contents.Text) = 0
 
 -- what the judge says of a period by two tests
-abbrev judged_both : Bool → Bool → ℕ → FieldAnswer
-judged_both a b n = must a (answers.Refused 8) (must b (answers.Refused 9) (answers.Number (pos n)))
+abbrev judged_both : Bool → Bool → ℕ → Result Content Wrong
+judged_both a b n = must a (Err wrongs.Form) (must b (Err wrongs.Range) (Ok (contents.Number (pos n))))
 
 said_both : (a b : Bool) (n : ℕ) → number_said (judged_both a b n) ≡ cond (a && b) n 0
 said_both true true n = refl
 said_both true false n = refl
 said_both false b n = refl
 
-number_both : (a b : Bool) (n : ℕ) (z : ℤ) → judged_both a b n ≡ answers.Number z → (z ≡ pos n) × (b ≡ true)
+number_both : (a b : Bool) (n : ℕ) (z : ℤ) → judged_both a b n ≡ Ok (contents.Number z) → (z ≡ pos n) × (b ≡ true)
 number_both true true n z e = (cc, refl)
 number_both true false n z e = absurd (let q : ◌≡◌ {A = ℕ} 0 1 = cc in omega arith)
 number_both false b n z e = absurd (let q : ◌≡◌ {A = ℕ} 0 1 = cc in omega arith)
@@ -63,7 +66,7 @@ module _ (s : List ℕ) where
       leb-true (number s) 50 (is_true _ (and_right (leb 1 (number s)) (leb (number s) 50) (holds within)))
 
   -- a period that the judge gives is a number of the machine, and is read back as it is
-  module _ (z : ℤ) (e : filled types.Period bare s ≡ answers.Number z) where
+  module _ (z : ℤ) (e : filled types.Period bare s ≡ Ok (contents.Number z)) where
     is_number : (z ≡ pos (number s)) × (range types.Period s ≡ true)
     unfolding filled form range value_of
     is_number = number_both (form types.Period s) (range types.Period s) (number s) z e
@@ -87,12 +90,12 @@ unfolding field_answer period_of form int_form plain unsigned minus
 said_answer [] = refl
 said_answer (b ∷ s) = rw (eqb-suc-zero (length s)) (said_period (b ∷ s))
 
-given_both : (a b : Bool) (n : ℕ) → 1 ≤ cond (a && b) n 0 → judged_both a b n ≡ answers.Number (pos (cond (a && b) n 0))
+given_both : (a b : Bool) (n : ℕ) → 1 ≤ cond (a && b) n 0 → judged_both a b n ≡ Ok (contents.Number (pos (cond (a && b) n 0)))
 given_both true true n h = refl
 given_both true false n h = absurd (omega (arith, h))
 given_both false b n h = absurd (omega (arith, h))
 
-pub given_period : (s : List ℕ) → 1 ≤ period_of s → field_answer types.Period bare s ≡ answers.Number (pos (period_of s))
+pub given_period : (s : List ℕ) → 1 ≤ period_of s → field_answer types.Period bare s ≡ Ok (contents.Number (pos (period_of s)))
 unfolding field_answer filled period_of form range value_of int_form plain unsigned minus
 given_period [] h = absurd (omega (arith, h))
 given_period (b ∷ s) h = rw (eqb-suc-zero (length s)) (given_both (form types.Period (b ∷ s)) (range types.Period (b ∷ s)) (number (b ∷ s)) h)

@@ -10,7 +10,7 @@ use lib.IntN.{pos}
 use lib.Seq.{append_snoc}
 use borrow.Author.Tests.{ltb-true}
 use Rattle.text.specs.Order.{number_order}
-use Rattle.text.specs.declared.Order.TheVariants.{Below, Equal, Above}
+use Rattle.std.specs.declared.cmp.Ordering.TheVariants.{Less, Equal, Greater}
 use Rattle.record.specs.Records.{records, field, bar}
 use Rattle.number.specs.Numbers.{number}
 use Rattle.number.specs.Order.{value_order}
@@ -27,12 +27,12 @@ use Rattle.period.specs.Answer.{period_of, has_a_period, period_in}
 use Rattle.period.proofs.OneKind.{Every, of_record, PeriodKind, OneOf, OnePeriodKind, one_period_kind}
 
 -- a number that is below
-number_less : (b : Bool) (x y : ℕ) → ltb x y ≡ b → number_order x y ≡ Below → x < y
+number_less : (b : Bool) (x y : ℕ) → ltb x y ≡ b → number_order x y ≡ Less → x < y
 unfolding number_order
 number_less true x y t e = ltb-true x y t
 number_less false x y t e = absurd (not_below (ltb y x) (sym (rw t) ∙ e))
   where
-    not_below : (c : Bool) → cond c Above Equal ≡ Below → ⊥
+    not_below : (c : Bool) → cond c Greater Equal ≡ Less → ⊥
     not_below true q = let z : ◌≡◌ {A = ℕ} 0 1 = cc in omega arith
     not_below false q = let z : ◌≡◌ {A = ℕ} 0 1 = cc in omega arith
 
@@ -57,7 +57,7 @@ period_kind r h = by_kind (has_a_period (kind_in r)) (period_of (field bar 2 r))
 
 -- of two records, by the order of their keys
 below : (q r : List ℕ) → has_a_period (kind_in q) ≡ true → has_a_period (kind_in r) ≡ true → RightPeriod q → RightPeriod r
-    → key_order types.Period (field bar 2 q) (field bar 2 r) ≡ Below → period_in q < period_in r
+    → key_order types.Period (field bar 2 q) (field bar 2 r) ≡ Less → period_in q < period_in r
 unfolding value_of value_order
 below q r j k x y e =
     let a = field bar 2 q in
@@ -67,7 +67,7 @@ below q r j k x y e =
     omega (arith, less, is_there_lem q j x, is_there_lem r k y)
 
 -- keys that rise, by what is published of a kind
-rising : (name : List ℕ) (k : PublishedKind) → PeriodKind name k → (q r : List ℕ) → Ascends k q r → key_order types.Period (field bar 2 q) (field bar 2 r) ≡ Below
+rising : (name : List ℕ) (k : PublishedKind) → PeriodKind name k → (q r : List ℕ) → Ascends k q r → key_order types.Period (field bar 2 q) (field bar 2 r) ≡ Less
 rising name k x q r ascends =
     let keyed : k.key ≡ 0 → ⊥ = λ z. omega (arith, z, x.key) in
     let strict = subst (λ (b : Bool). KeysInOrder b (key_order (key_type_for k) (field bar k.key q) (field bar k.key r))) x.rises (ascends keyed) in

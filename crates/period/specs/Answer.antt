@@ -1,9 +1,10 @@
 -- Is a period in a P0012 file (document 02, C-17). Assumes nothing.
-use Rattle.std.specs.Prelude.{ℕ, Bool, true, false, cond, ◌&&◌, ◌||◌, List, [], ◌∷◌, eqb, leb, length}
+use Rattle.std.specs.Prelude.{ℕ, Bool, false, cond, ◌&&◌, ◌||◌, Result, Ok, Err, List, [], ◌∷◌, eqb, leb, length}
 use Rattle.text.specs.Characters.{from_to}
 use Rattle.text.specs.Order.{same_bytes}
 use Rattle.text.specs.Rules.{must}
 use Rattle.record.specs.Records.{records, field, bar}
+use Rattle.place.specs.declared.Refusal.{Refusal}
 use Rattle.place.specs.Places.{refusal_at, whole}
 use Rattle.number.specs.Numbers.{number}
 use Rattle.field.specs.Types.{form, range}
@@ -13,12 +14,9 @@ use Rattle.flow.specs.Letters.{GSP, GS2, P0012001}
 use Rattle.flow.specs.Publication.{layout_for}
 use Rattle.flow.specs.Editions.{Asked, a_flow, no_flow}
 use Rattle.judge.specs.Record.{last_kind}
-use Rattle.judge.specs.File.{checked_from, ends_in_feed, ended, finish}
+use Rattle.judge.specs.File.{unplaced, checked_from, ends_in_feed, ended, finish}
 use Rattle.judge.specs.Right.{kind_in}
-use Rattle.judge.specs.declared.Verdict.{Verdict}
-use Rattle.judge.specs.declared.Verdict.TheVariants as verdicts
-use Rattle.period.specs.declared.Answer.{Answer}
-use Rattle.period.specs.declared.Answer.TheVariants.{Refused, Yes, No}
+use Rattle.judge.specs.declared.Unplaced.{Unplaced}
 
 -- the period that a field's bytes say; 0 where they have not the form and the range of one
 unfoldable pub period_of : List ℕ → ℕ
@@ -52,38 +50,34 @@ some_has p [] = false
 some_has p (r ∷ rs) = eqb p (period_in r) || some_has p rs
 
 -- behind the records read: with no stop before the end 14 or 15 as the reader would give them
-abbrev pub at_end : Layout → List ℕ → ℕ → Verdict
+abbrev pub at_end : Layout → List ℕ → ℕ → Result ℕ Unplaced
 at_end l f p =
-    cond (some_stops p (records f)) (verdicts.Accepted (length (up_to p (records f))))
+    cond (some_stops p (records f)) (Ok (length (up_to p (records f))))
     (ended l (length (records f)) (last_kind bar l (records f)) (ends_in_feed f))
 
 -- by a layout: 2, then the first refusal of a record up to the stop and with it, then the end
-unfoldable pub read_up_to : Layout → List ℕ → ℕ → Verdict
+unfoldable pub read_up_to : Layout → List ℕ → ℕ → Result ℕ Unplaced
 read_up_to l f p =
-    must (leb (length f) 1048576) (verdicts.Refused 2 0 0)
+    must (leb (length f) 1048576) (Err (unplaced 2 0 0))
     (finish (checked_from bar l [] (up_to p (records f))) (at_end l f p))
 
--- yes or no
-abbrev pub yes_or_no : Bool → Answer
-yes_or_no b = cond b Yes No
-
 -- a refusal with its place in the file; where there is none, the answer
-abbrev pub answered : List ℕ → Verdict → Bool → Answer
-answered f (verdicts.Accepted n) has = yes_or_no has
-answered f (verdicts.Refused number r k) has = Refused (refusal_at bar f number r k)
+abbrev pub answered : List ℕ → Result ℕ Unplaced → Bool → Result Bool Refusal
+answered f (Ok n) has = Ok has
+answered f (Err r) has = Err (refusal_at bar f r.number r.«record» r.field)
 
 -- by a layout: the refusals, then the answer by the records read
-unfoldable pub has_by : Layout → List ℕ → ℕ → Answer
+unfoldable pub has_by : Layout → List ℕ → ℕ → Result Bool Refusal
 has_by l f p = answered f (read_up_to l f p) (some_has p (up_to p (records f)))
 
 -- 18 for a period outside 1 to 50, then by a layout
-abbrev pub in_range : Layout → List ℕ → ℕ → Answer
-in_range l f p = must (from_to 1 50 p) (Refused (whole 18)) (has_by l f p)
+abbrev pub in_range : Layout → List ℕ → ℕ → Result Bool Refusal
+in_range l f p = must (from_to 1 50 p) (Err (whole 18)) (has_by l f p)
 
 -- for what is asked: its own refusal, right behind it 22 for another flow than P0012001, then 18; both at record 0
-unfoldable pub has_for : Asked → List ℕ → ℕ → Answer
-has_for (a_flow fl) f p = must (same_bytes P0012001 fl.name) (Refused (whole 22)) (in_range (layout_for fl) f p)
-has_for (no_flow r) f p = Refused r
+unfoldable pub has_for : Asked → List ℕ → ℕ → Result Bool Refusal
+has_for (a_flow fl) f p = must (same_bytes P0012001 fl.name) (Err (whole 22)) (in_range (layout_for fl) f p)
+has_for (no_flow r) f p = Err r
 
 -- the papers' answers: a refusal's number, record, field and place, or yes or no
 pub data Reply : Type 0 where
@@ -91,10 +85,9 @@ pub data Reply : Type 0 where
   truth : Bool → Reply
 
 -- what each case of the code's answer says in the papers' terms
-abbrev pub paper : Answer → Reply
-paper (Refused r) = refused r.number r.«record» r.field r.place
-paper Yes = truth true
-paper No = truth false
+abbrev pub paper : Result Bool Refusal → Reply
+paper (Err r) = refused r.number r.«record» r.field r.place
+paper (Ok b) = truth b
 
 -- is a period in a file for what is asked
 unfoldable pub has_period : Asked → List ℕ → ℕ → Reply

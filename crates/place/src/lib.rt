@@ -4,10 +4,9 @@
 ghost use Rattle.std.specs.Prelude.{◌≡◌};
 ghost use Rattle.place.specs.Places.{place_at, refusal_at, whole as whole_of};
 
-use record::Found;
-
-// A refusal's number, the record and field where it is, and the place of these in the bytes that were judged, counted from 0.
-#[derive(Clone, Copy)]
+// A refusal's number, the record and field where it is, and the place of these in the bytes that were judged, counted from 0. The number
+// is the papers' own: the definitions, the C interface and the programs' lines give it.
+#[derive(Clone, Copy, PartialEq, Eq)]
 pub struct Refusal {
     pub number: usize,
     pub record: usize,
@@ -22,13 +21,13 @@ pub fn of(sep: u8, s: &[u8], n: usize, k: usize) -> usize
     if n == 0 {
         return 0;
     }
-    let Found::At { start, end } = record::record_at(s, n) else {
+    let Some(record) = record::record_at(s, n) else {
         return s.len();
     };
-    let Found::At { start: a, end: _ } = record::field_at(sep, &s[start..end], k) else {
-        return start;
+    let Some(field) = record::field_at(sep, record.of(s), k) else {
+        return record.start;
     };
-    start + a
+    record.start + field.start
 }
 
 // A refusal of a file or a sheet, with its place.
@@ -36,7 +35,7 @@ pub fn at(sep: u8, s: &[u8], number: usize, n: usize, k: usize) -> Refusal
     ensures { result ≡ refusal_at sep s.now number n k }
 {
     Refusal {
-        number: number,
+        number,
         record: n,
         field: k,
         place: of(sep, s, n, k),
@@ -48,7 +47,7 @@ pub fn whole(number: usize) -> Refusal
     ensures { result ≡ whole_of number }
 {
     Refusal {
-        number: number,
+        number,
         record: 0,
         field: 0,
         place: 0,

@@ -1,4 +1,3 @@
-pub mod Each
 pub mod Marks
 pub mod Hexes
 pub mod Inside

@@ -16,7 +16,3 @@ pub record IsHex (n : ℕ) (digits : List ℕ) : Type 0 where
   pub hold : n < 16 ^ length digits
   pub few : 1 < length digits → 16 ^ (length digits - 1) ≤ n
   pub are : digits ≡ hex_digits (length digits) n
-
--- a small letter's capital; a digit stays
-unfoldable pub capital_of : ℕ → ℕ
-capital_of b = cond (ltb b 97) b (b - 32)

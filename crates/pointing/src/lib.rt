@@ -3,12 +3,12 @@
 
 ghost use Rattle.std.specs.Prelude.{◌≡◌, map, ◌+◌, ◌≤◌, min, length, take};
 ghost use Rattle.io.specs.Counts.{IsPrefixLen};
-ghost use Rattle.pointing.specs.Hex.{capital_of, IsHex};
+ghost use Rattle.pointing.specs.Hex.{IsHex};
 ghost use Rattle.pointing.specs.Shown.{Placed, Window, column_of, mark_behind};
 
 use place::Refusal;
-use record::{Found, TAB};
-use stream::{print, print_number};
+use record::TAB;
+use stream::{Unwritten, print, print_number};
 
 // What is shown of a record: the bytes from `from` up to `to`, and under them a mark, with so many of them before it.
 #[derive(Clone, Copy)]
@@ -48,19 +48,15 @@ fn window(start: usize, end: usize, place: usize) -> Part
 }
 
 // A byte as it is shown, in one column.
+#[tactic(auto, unfolding(crate::specs::Shown::column_of))]
 fn column(b: u8) -> u8
     ensures { result ≡ column_of b }
 {
-    if b == TAB {
-        return b' ';
+    match b {
+        TAB => b' ',
+        32..=126 => b,
+        _ => b'?',
     }
-    if b < 32 {
-        return b'?';
-    }
-    if 126 < b {
-        return b'?';
-    }
-    b
 }
 
 // Bytes as they are shown, at the front of a line.
@@ -69,10 +65,8 @@ fn columns(part: &[u8]) -> [u8; 64]
     ensures { take (length part.now) result ≡ map column_of part.now }
 {
     let mut line = [b' '; 64];
-    let mut i = 0;
-    while i < part.len() {
-        line[i] = column(part[i]);
-        i += 1;
+    for (i, b) in part.iter().enumerate() {
+        line[i] = column(*b);
     }
     line
 }
@@ -87,50 +81,29 @@ fn mark(n: usize) -> [u8; 65]
     line
 }
 
-// A hex digit with its letter a capital.
-fn capital(b: u8) -> u8
-    ensures { result ≡ capital_of b }
-{
-    if b < b'a' {
-        return b;
-    }
-    b - 32
-}
-
-// Makes the letters of hex digits capitals.
-fn to_capitals(digits: &mut [u8])
-    ensures { digits.new ≡ map capital_of digits.old }
-{
-    let mut i = 0;
-    while i < digits.len() {
-        digits[i] = capital(digits[i]);
-        i += 1;
-    }
-}
-
 // Puts the hex digits of a number at the front of the lent bytes, and gives how many they are.
 fn hex(n: usize, out: &mut [u8; 16]) -> usize
     ensures prefix_len { IsPrefixLen result out.new }
     ensures hex { IsHex n (take result out.new) }
 {
     let k = io::hex(n as u64, 1, out);
-    to_capitals(out);
+    out.make_ascii_uppercase();
     k
 }
 
 // `Byte 78 (hex 4E)`.
-fn print_place(rt: &(impl Print + Eprint), place: usize) -> bool {
+fn print_place(rt: &(impl Print + Eprint), place: usize) -> Result<(), Unwritten> {
     let mut digits = [0u8; 16];
     let k = hex(place, &mut digits);
-    print(rt, b"Byte ")
-        && print_number(rt, place as u64)
-        && print(rt, b" (hex ")
-        && print(rt, &digits[..k])
-        && print(rt, b")")
+    print(rt, b"Byte ")?;
+    print_number(rt, place as u64)?;
+    print(rt, b" (hex ")?;
+    print(rt, &digits[..k])?;
+    print(rt, b")")
 }
 
 // That the place is the end of a file, or of a sheet, whose fields are parted by tabs.
-fn print_end(rt: &(impl Print + Eprint), sep: u8) -> bool {
+fn print_end(rt: &(impl Print + Eprint), sep: u8) -> Result<(), Unwritten> {
     if sep == TAB {
         return print(rt, b", the end of the sheet.\n");
     }
@@ -138,35 +111,37 @@ fn print_end(rt: &(impl Print + Eprint), sep: u8) -> bool {
 }
 
 // Which bytes are shown, where they are not the whole of a record of so many.
-fn print_part(rt: &(impl Print + Eprint), part: Part, size: usize) -> bool
+fn print_part(rt: &(impl Print + Eprint), part: Part, size: usize) -> Result<(), Unwritten>
     requires { part.to ≡ part.from + min 64 size }
 {
     if size <= 64 {
         return print(rt, b":\n");
     }
-    print(rt, b"; only bytes ")
-        && print_number(rt, part.from as u64)
-        && print(rt, b" to ")
-        && print_number(rt, (part.to - 1) as u64)
-        && print(rt, b" are shown:\n")
+    print(rt, b"; only bytes ")?;
+    print_number(rt, part.from as u64)?;
+    print(rt, b" to ")?;
+    print_number(rt, (part.to - 1) as u64)?;
+    print(rt, b" are shown:\n")
 }
 
 // Bytes on a line of their own, a column each.
-fn print_columns(rt: &(impl Print + Eprint), part: &[u8]) -> bool
+fn print_columns(rt: &(impl Print + Eprint), part: &[u8]) -> Result<(), Unwritten>
     requires { length part.now ≤ 64 }
 {
     let line = columns(part);
     let n = part.len();
-    print(rt, &line[..n]) && print(rt, b"\n")
+    print(rt, &line[..n])?;
+    print(rt, b"\n")
 }
 
 // The mark on a line of its own, with n blanks before it.
-fn print_mark(rt: &(impl Print + Eprint), n: usize) -> bool
+fn print_mark(rt: &(impl Print + Eprint), n: usize) -> Result<(), Unwritten>
     requires { n ≤ 64 }
 {
     let line = mark(n);
     let width = n + 1;
-    print(rt, &line[..width]) && print(rt, b"\n")
+    print(rt, &line[..width])?;
+    print(rt, b"\n")
 }
 
 // The record from `start` up to `end`, and a mark under the byte at the place.
@@ -176,26 +151,28 @@ fn print_record(
     start: usize,
     end: usize,
     place: usize,
-) -> bool
+) -> Result<(), Unwritten>
     requires { (start ≤ place) × (place ≤ end) × (end ≤ length s.now) }
 {
     let part = window(start, end, place);
     let from = part.from;
     let to = part.to;
-    print_part(rt, part, end - start)
-        && print_columns(rt, &s[from..to])
-        && print_mark(rt, part.mark)
+    print_part(rt, part, end - start)?;
+    print_columns(rt, &s[from..to])?;
+    print_mark(rt, part.mark)
 }
 
 // The byte that a refusal points at, in its record; or that it is the end. Of a refusal of the whole there is nothing to show.
-pub fn point(rt: &(impl Print + Eprint), sep: u8, s: &[u8], r: Refusal) -> bool
+pub fn point(rt: &(impl Print + Eprint), sep: u8, s: &[u8], r: Refusal) -> Result<(), Unwritten>
     requires { Placed sep s.now r }
 {
     if r.record == 0 {
-        return true;
+        return Ok(());
     }
-    let Found::At { start, end } = record::record_at(s, r.record) else {
-        return print_place(rt, r.place) && print_end(rt, sep);
+    let Some(record) = record::record_at(s, r.record) else {
+        print_place(rt, r.place)?;
+        return print_end(rt, sep);
     };
-    print_place(rt, r.place) && print_record(rt, s, start, end, r.place)
+    print_place(rt, r.place)?;
+    print_record(rt, s, record.start, record.end, r.place)
 }

@@ -8,11 +8,11 @@ use lib.ListN.{length, take, drop, length-take, length-drop, drop_of_length-le}
 use lib.Seq.{drop-drop, take_all}
 use borrow.Author.Tests.{le-leb, lt-leb}
 use Rattle.record.specs.Records.{records, fields, fields_from, run}
+use Rattle.std.specs.Prelude.{Option, Some, None}
 use Rattle.record.specs.Step.{IsRecord, IsField, Stepped, FieldStepped}
-use Rattle.record.specs.declared.Step.{Step}
-use Rattle.record.specs.declared.Step.TheVariants.{Record, Done}
-use Rattle.record.specs.declared.FieldStep.{FieldStep}
-use Rattle.record.specs.declared.FieldStep.TheVariants.{Field, Done as Ended}
+use Rattle.record.specs.declared.Span.{Span}
+use Rattle.record.specs.declared.Cursor.{Cursor}
+use Rattle.record.specs.declared.FieldCursor.{FieldCursor}
 use Rattle.record.proofs.Runs.{run_le, records_first, fields_last, fields_more}
 
 module _ (s : List ℕ) (at e : ℕ) (h : at < length s) (ends : e ≡ at + run 0x0A (drop at s)) where
@@ -143,12 +143,12 @@ no_record : (s : List ℕ) (at : ℕ) {a e n : ℕ} → IsRecord s at a e n → 
 no_record s at x e = let z : ◌≡◌ {A = ℕ} 0 1 = omega (arith, ap length (sym e ∙ x.splits)) in omega arith
 
 -- a step has one answer
-pub step_one : (s : List ℕ) (at : ℕ) (x y : Step) → Stepped s at x → Stepped s at y → x ≡ y
-step_one s at (Record a e n) (Record a' e' n') p q =
-    λ i. Record (record_same_start s at p q i) (record_same_end s at p q i) (record { at = record_same_next s at p q i })
-step_one s at (Record a e n) Done p q = absurd (no_record s at p q)
-step_one s at Done (Record a e n) p q = absurd (no_record s at q p)
-step_one s at Done Done p q = refl
+pub step_one : (s : List ℕ) (at : ℕ) (x y : Option (Span × Cursor)) → Stepped s at x → Stepped s at y → x ≡ y
+step_one s at (Some (x, c)) (Some (y, d)) p q =
+    λ i. Some (record { start = record_same_start s at p q i; end = record_same_end s at p q i }, record { at = record_same_next s at p q i })
+step_one s at (Some (x, c)) None p q = absurd (no_record s at p q)
+step_one s at None (Some (y, d)) p q = absurd (no_record s at q p)
+step_one s at None None p q = refl
 
 -- and so for fields
 module _ (sep : ℕ) (r : List ℕ) (at : ℕ) {a e n a' e' n' : ℕ} (x : IsField sep r at a e n) (y : IsField sep r at a' e' n') where
@@ -167,9 +167,9 @@ module _ (sep : ℕ) (r : List ℕ) (at : ℕ) {a e n a' e' n' : ℕ} (x : IsFie
 no_field : (sep : ℕ) (r : List ℕ) (at : ℕ) {a e n : ℕ} → IsField sep r at a e n → length r < at → ⊥
 no_field sep r at x h = omega (arith, x.starts, x.ordered, x.within)
 
-pub field_step_one : (sep : ℕ) (r : List ℕ) (at : ℕ) (x y : FieldStep) → FieldStepped sep r at x → FieldStepped sep r at y → x ≡ y
-field_step_one sep r at (Field a e n) (Field a' e' n') p q =
-    λ i. Field (field_same_start sep r at p q i) (field_same_end sep r at p q i) (record { at = field_same_next sep r at p q i })
-field_step_one sep r at (Field a e n) Ended p q = absurd (no_field sep r at p q)
-field_step_one sep r at Ended (Field a e n) p q = absurd (no_field sep r at q p)
-field_step_one sep r at Ended Ended p q = refl
+pub field_step_one : (sep : ℕ) (r : List ℕ) (at : ℕ) (x y : Option (Span × FieldCursor)) → FieldStepped sep r at x → FieldStepped sep r at y → x ≡ y
+field_step_one sep r at (Some (x, c)) (Some (y, d)) p q =
+    λ i. Some (record { start = field_same_start sep r at p q i; end = field_same_end sep r at p q i }, record { at = field_same_next sep r at p q i })
+field_step_one sep r at (Some (x, c)) None p q = absurd (no_field sep r at p q)
+field_step_one sep r at None (Some (y, d)) p q = absurd (no_field sep r at q p)
+field_step_one sep r at None None p q = refl

@@ -1,5 +1,5 @@
 -- Laws of runs: a run at a place, and what it says of records and fields.
-use Prim.Native.Nat.{ℕ, zero, suc, ◌+◌, ◌-◌, ◌≤◌, ◌<◌, zero-le, suc-le-suc}
+use Prim.Native.Nat.{ℕ, zero, suc, ◌+◌, ◌≤◌, ◌<◌, zero-le, suc-le-suc}
 use mathlib.Core.Path.{◌≡◌, refl, ap}
 use mathlib.Core.List.{List, [], ◌∷◌}
 use mathlib.Core.Bool.{Bool, true, false, cond}
@@ -9,6 +9,8 @@ use lib.Dec.{eqb}
 use lib.ListN.{length, take, drop, get_or, drop_of_length-le}
 use lib.Seq.{drop-cons}
 use borrow.Author.Tests.{eq-eqb, ne_eqb}
+use Rattle.std.specs.List.{count_by}
+use Rattle.std.proofs.lemmas.List.Recursion.{is_count_by}
 use Rattle.record.specs.Records.{records, fields, onto, run}
 
 module _ (sep : ℕ) (s : List ℕ) (i : ℕ) where
@@ -135,3 +137,12 @@ fields_and_bars sep [] = refl
 fields_and_bars sep (b ∷ s) =
     let one = count_go b (cond (eqb b sep) 1 0) (fields sep s) (eqb b sep) (fields_some sep s) refl in
     omega (arith, one.1, fields_and_bars sep s)
+
+one_more_go : (n : ℕ) (t : Bool) → cond t 1 0 + n ≡ cond t (1 + n) n
+one_more_go n true = refl
+one_more_go n false = omega arith
+
+-- and those that a count finds
+pub bars_counted : (sep : ℕ) (r : List ℕ) → how_many sep r ≡ count_by (λ b. eqb b sep) r
+unfolding how_many
+bars_counted sep r = is_count_by (how_many sep) (λ b. eqb b sep) refl (λ b s. one_more_go (how_many sep s) (eqb b sep)) r

@@ -7,10 +7,13 @@ use native.Mathlib.Omega.{arith}
 use lib.ListN.{length, take, drop, get_or, length-append, get_or-eq_default}
 use lib.Seq.{append_snoc, take_at, get_or_at}
 use Rattle.record.specs.Records.{records, fields, fields_from, field, extent, IsPart}
-use Rattle.record.specs.Step.{IsRecord, IsField}
-use Rattle.record.specs.Found.{Stands, PartFound, FieldFound}
-use Rattle.record.specs.declared.Found.{Found}
-use Rattle.record.specs.declared.Found.TheVariants.{At, Nothing}
+use Rattle.std.specs.Prelude.{Option, Some, None}
+use Rattle.std.specs.Iterator.{Yields, SkipsThenYields}
+use Rattle.record.specs.Step.{IsRecord, IsField, RecordYielded, FieldYielded}
+use Rattle.record.specs.Found.{Stands, PartFound, RecordFound, FieldFound}
+use Rattle.record.specs.declared.Span.{Span}
+use Rattle.record.specs.declared.RecordSpans.{RecordSpans}
+use Rattle.record.specs.declared.FieldSpans.{FieldSpans}
 use Rattle.record.proofs.Cursors.{records_end, from_past, part_length}
 use Rattle.record.proofs.Cutting.{part_as}
 use Rattle.record.proofs.Fields.{from_start, by_number}
@@ -108,19 +111,70 @@ module _ (sep : ℕ) (r : List ℕ) where
           sought_later x y.splits z
           (λ _. omega (arith, y.past, y.starts, y.ordered, part_length r a e y.ordered y.within))
 
+-- calls of next that gave so many parts lead to a place that many parts on
+module _ {S : Type 0} (steps : S → Option Span → S → Type 0) (At : S → ℕ → Type 0)
+    (later : (s t : S) (x : Span) (left : ℕ) → steps s (Some x) t → At s left → (left ≡ 0 → ⊥) → At t (left - 1)) where
+  passed : (s t : S) (xs : List Span) (left m : ℕ) → Yields steps s xs t → m + length xs ≡ left → At s left → At t m
+  passed s t [] left m y e x =
+      let k : left ≡ m = omega arith in
+      rw (← y, ← k) x
+  passed s t (p ∷ ps) left m (j, st, ys) e x = passed j t ps (left - 1) m ys (omega arith) (later s j p left st x (omega arith))
+
+-- the records that calls of next give from the front of a file: the part sought is found, or there is none
+module _ (f : List ℕ) (n : ℕ) where
+  abbrev AtRecord : RecordSpans → ℕ → Type 0
+  AtRecord s left = (s.bytes.now ≡ f) × Sought (records f) (records (drop s.at f)) n s.at left
+
+  one_record : (s t : RecordSpans) (x : Span) (left : ℕ) → RecordYielded s (Some x) t → AtRecord s left → (left ≡ 0 → ⊥) → AtRecord t (left - 1)
+  one_record s t x left (same, is) (b, y) h =
+      let here : IsRecord f s.at x.start x.end t.at = rw b at is in
+      (same ∙ b, record_later f y here h)
+
+  pub record_found : (s u : RecordSpans) (r : Option Span) → (n ≡ 0 → ⊥) → s.bytes.now ≡ f → s.at ≡ 0 → SkipsThenYields RecordYielded s (n - 1) r u → RecordFound f n r
+  record_found s u (Some x) h b z (xs, (t, ys, (same, is)), e) =
+      let start : AtRecord s (n - 1) = (b, rw z (at_start (records f) (records f) n refl h)) in
+      let (c, y) : AtRecord t 0 = passed RecordYielded AtRecord one_record s t xs (n - 1) 0 ys (omega arith) start in
+      let here : IsRecord f t.at x.start x.end u.at = rw c at is in
+      record_here f y here refl
+  record_found s u None h b z (xs, (t, ys, (same, is)), e) =
+      let start : AtRecord s (n - 1) = (b, rw z (at_start (records f) (records f) n refl h)) in
+      let (c, y) : AtRecord t (n - 1 - length xs) = passed RecordYielded AtRecord one_record s t xs (n - 1) (n - 1 - length xs) ys (omega arith) start in
+      none_left y (rw c at is)
+
+-- and so for the fields of a record
+module _ (sep : ℕ) (r : List ℕ) (k : ℕ) where
+  abbrev AtField : FieldSpans → ℕ → Type 0
+  AtField s left = (s.sep ≡ sep) × (s.bytes.now ≡ r) × Sought (fields sep r) (fields_from sep s.at r) k s.at left
+
+  one_field : (s t : FieldSpans) (x : Span) (left : ℕ) → FieldYielded s (Some x) t → AtField s left → (left ≡ 0 → ⊥) → AtField t (left - 1)
+  one_field s t x left (same, bytes, is) (p, b, y) h =
+      let here : IsField sep r s.at x.start x.end t.at = rw (p, b) at is in
+      (same ∙ p, bytes ∙ b, field_later sep r y here h)
+
+  pub field_found_at : (s u : FieldSpans) (x : Option Span) → (k ≡ 0 → ⊥) → s.sep ≡ sep → s.bytes.now ≡ r → s.at ≡ 0 → SkipsThenYields FieldYielded s (k - 1) x u → FieldFound sep r k x
+  field_found_at s u (Some x) h p b z (xs, (t, ys, (same, bytes, is)), e) =
+      let start : AtField s (k - 1) = (p, b, rw z (first_field sep r k h)) in
+      let (q, c, y) : AtField t 0 = passed FieldYielded AtField one_field s t xs (k - 1) 0 ys (omega arith) start in
+      let here : IsField sep r t.at x.start x.end u.at = rw (q, c) at is in
+      field_here sep r y here refl
+  field_found_at s u None h p b z (xs, (t, ys, (same, bytes, is)), e) =
+      let start : AtField s (k - 1) = (p, b, rw z (first_field sep r k h)) in
+      let (q, c, y) : AtField t (k - 1 - length xs) = passed FieldYielded AtField one_field s t xs (k - 1) (k - 1 - length xs) ys (omega arith) start in
+      no_field_left sep r y (rw c at is)
+
 -- field k where the search found it; where it found nothing the field has no bytes
 module _ (sep k : ℕ) (r : List ℕ) where
-  pub field_stands : {a e : ℕ} → FieldFound sep r k (At a e) → IsPart r a e (field sep k r)
+  pub field_stands : {x : Span} → FieldFound sep r k (Some x) → IsPart r x.start x.end (field sep k r)
   field_stands x = part_as x.is (by_number sep k r x.least)
 
-  absent_go : Dec (0 < k) → FieldFound sep r k Nothing → field sep k r ≡ []
+  absent_go : Dec (0 < k) → FieldFound sep r k None → field sep k r ≡ []
   unfolding field
   absent_go (yes l) h = sym (by_number sep k r l) ∙ get_or-eq_default (fields sep r) [] {n = k - 1} (omega (arith, h l))
   absent_go (no l) h =
       let z : k ≡ 0 = omega arith in
       rw z
 
-  pub field_absent : FieldFound sep r k Nothing → field sep k r ≡ []
+  pub field_absent : FieldFound sep r k None → field sep k r ≡ []
   field_absent = absent_go (dec_lt 0 k)
 
 -- two answers that meet the promise are one
@@ -132,8 +186,8 @@ module _ (ps : List (List ℕ)) (s : List ℕ) (n : ℕ) where
   not_both : {a e : ℕ} → Stands ps s n a e → (1 ≤ n → length ps < n) → ⊥
   not_both x h = omega (arith, x.least, x.most, h x.least)
 
-  pub one_found : (x y : Found) → PartFound ps s n x → PartFound ps s n y → x ≡ y
-  one_found (At a e) (At b c) p q = λ i. At ((p.starts ∙ sym q.starts) i) ((stands_end p ∙ sym (stands_end q)) i)
-  one_found (At a e) Nothing p q = absurd (not_both p q)
-  one_found Nothing (At b c) p q = absurd (not_both q p)
-  one_found Nothing Nothing p q = refl
+  pub one_found : (x y : Option Span) → PartFound ps s n x → PartFound ps s n y → x ≡ y
+  one_found (Some x) (Some y) p q = λ i. Some (record { start = (p.starts ∙ sym q.starts) i; end = (stands_end p ∙ sym (stands_end q)) i })
+  one_found (Some x) None p q = absurd (not_both p q)
+  one_found None (Some y) p q = absurd (not_both q p)
+  one_found None None p q = refl

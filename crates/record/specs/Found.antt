@@ -1,8 +1,7 @@
 -- What the search for a record or a field by its number answers.
-use Rattle.std.specs.Prelude.{ℕ, ◌-◌, ◌≤◌, ◌<◌, ◌≡◌, List, [], length, take, get_or}
+use Rattle.std.specs.Prelude.{ℕ, ◌-◌, ◌≤◌, ◌<◌, ◌≡◌, List, [], length, take, get_or, Option, Some, None}
 use Rattle.record.specs.Records.{records, fields, extent, IsPart}
-use Rattle.record.specs.declared.Found.{Found}
-use Rattle.record.specs.declared.Found.TheVariants.{At, Nothing}
+use Rattle.record.specs.declared.Span.{Span}
 
 -- part n of the parts of s, counted from 1, is the bytes from start up to end, behind the parts before it
 pub record Stands (ps : List (List ℕ)) (s : List ℕ) (n start end : ℕ) : Type 0 where
@@ -12,13 +11,13 @@ pub record Stands (ps : List (List ℕ)) (s : List ℕ) (n start end : ℕ) : Ty
   pub is : IsPart s start end (get_or ps (n - 1) [])
 
 -- part n is found; or n is 0 or above the number of parts
-abbrev pub PartFound : List (List ℕ) → List ℕ → ℕ → Found → Type 0
-PartFound ps s n (At start end) = Stands ps s n start end
-PartFound ps s n Nothing = 1 ≤ n → length ps < n
+abbrev pub PartFound : List (List ℕ) → List ℕ → ℕ → Option Span → Type 0
+PartFound ps s n (Some x) = Stands ps s n x.start x.end
+PartFound ps s n None = 1 ≤ n → length ps < n
 
 -- record n of a file, and field k of a record
-abbrev pub RecordFound : List ℕ → ℕ → Found → Type 0
+abbrev pub RecordFound : List ℕ → ℕ → Option Span → Type 0
 RecordFound f n found = PartFound (records f) f n found
 
-abbrev pub FieldFound : ℕ → List ℕ → ℕ → Found → Type 0
+abbrev pub FieldFound : ℕ → List ℕ → ℕ → Option Span → Type 0
 FieldFound sep r k found = PartFound (fields sep r) r k found

@@ -1,9 +1,7 @@
 #![tactic(auto)]
 
-ghost use Rattle.std.specs.Prelude.{◌≡◌, ◌+◌, ◌*◌, ◌/◌, ◌≤◌, cond, eqb, length, take, drop};
-ghost use Rattle.std.specs.Int.Count.{count_trailing_zeros};
+ghost use Rattle.std.specs.Prelude.{◌≡◌, ◌+◌, ◌*◌, ◌/◌, ◌-◌, ◌≤◌, cond, eqb, length, take, drop};
 ghost use Rattle.record.specs.Records.{run, fields};
-ghost use Rattle.record.specs.Eight.{low};
 ghost use Rattle.record.specs.Step.{Stepped, FieldStepped};
 ghost use Rattle.record.specs.Found.{RecordFound, FieldFound};
 
@@ -19,69 +17,22 @@ fn find(s: &[u8], at: usize, sep: u8) -> usize
     requires { at ≤ length s.now }
     ensures { result ≡ at + run sep (drop at s.now) }
 {
-    let mut i = at;
-    while i < s.len() {
+    for i in at..s.len() {
         if s[i] == sep {
             return i;
         }
-        i += 1;
     }
-    i
+    s.len()
 }
 
-// A byte as a number that can be joined.
-pub fn wide(b: u8) -> u32
-    ensures { result ≡ b }
-{
-    b as u32
-}
-
-// Four bytes in one number as a number that can be joined.
-fn long(x: u32) -> u64
-    ensures { result ≡ x }
-{
-    x as u64
-}
-
-// Four bytes in one number, first byte lowest.
-fn pack(a: u8, b: u8, c: u8, d: u8) -> u32
-    ensures { result ≡ a + b * 0x100 + c * 0x10000 + d * 0x1000000 }
-{
-    wide(a) + wide(b) * 0x100 + wide(c) * 0x10000 + wide(d) * 0x1000000
-}
-
-// The four bytes from `i` on, first byte lowest.
-fn four(s: &[u8], i: usize) -> u32
-    requires { i + 4 ≤ length s.now }
-    ensures { result ≡ low (take 4 (drop i s.now)) }
-{
-    pack(s[i], s[i + 1], s[i + 2], s[i + 3])
-}
-
-// The eight bytes from `i` on, first byte lowest.
-fn eight(s: &[u8], i: usize) -> u64
-    requires { i + 8 ≤ length s.now }
-    ensures { result ≡ low (take 8 (drop i s.now)) }
-{
-    long(four(s, i)) + long(four(s, i + 4)) * 0x100000000
-}
-
-// How many zero bytes stand at the low end of `h`.
-fn low_zeros(h: u64) -> usize
-    ensures { result ≡ count_trailing_zeros 64 h / 8 }
-{
-    (u64::trailing_zeros(h) / 8) as usize
-}
-
-// How many of the eight bytes from `i` on stand before the first `sep` among them, or 8.
+// How many of eight bytes stand before the first `sep` among them, or 8.
 // A byte of `t` is 0 where `sep` stands; then a byte of `m` is 0, and any other is 0x80.
-fn run_in_eight(s: &[u8], i: usize, sep: u8) -> usize
-    requires { i + 8 ≤ length s.now }
-    ensures { result ≡ run sep (take 8 (drop i s.now)) }
+fn run_in_eight(bytes: &[u8; 8], sep: u8) -> usize
+    ensures { result ≡ run sep bytes.now }
 {
-    let t = eight(s, i) ^ (long(wide(sep)) * 0x0101010101010101);
+    let t = u64::from_le_bytes(*bytes) ^ (u64::from(sep) * 0x0101010101010101);
     let m = (((t & 0x7f7f7f7f7f7f7f7f) + 0x7f7f7f7f7f7f7f7f) | t) & 0x8080808080808080;
-    low_zeros(m ^ 0x8080808080808080)
+    ((m ^ 0x8080808080808080).trailing_zeros() / 8) as usize
 }
 
 // The same as `find`, eight bytes at a time: for records, which are long.
@@ -89,174 +40,168 @@ fn find_far(s: &[u8], at: usize, sep: u8) -> usize
     requires { at ≤ length s.now }
     ensures { result ≡ at + run sep (drop at s.now) }
 {
-    let mut i = at;
-    while 8 <= s.len() - i {
-        let k = run_in_eight(s, i, sep);
-        if k < 8 {
-            return i + k;
+    let mut rest = &s[at..];
+    while let Some((eight, behind)) = rest.split_first_chunk::<8>() {
+        let run = run_in_eight(eight, sep);
+        if run < 8 {
+            return s.len() - rest.len() + run;
         }
-        i += 8;
+        rest = behind;
     }
-    find(s, i, sep)
+    find(s, s.len() - rest.len(), sep)
 }
 
-// A place in a file, from which the next record is cut.
-#[derive(Clone, Copy)]
+// A part of some bytes: where it starts, and where it ends.
+#[derive(Clone, Copy, PartialEq, Eq)]
+pub struct Span {
+    pub start: usize,
+    pub end: usize,
+}
+
+impl Span {
+    // The bytes of the part, which lies within `s`.
+    pub fn of<'a>(self, s: &'a [u8]) -> &'a [u8]
+        requires { (self.start ≤ self.end) × (self.end ≤ length s.now) }
+        ensures { result.now ≡ take (self.end - self.start) (drop self.start s.now) }
+    {
+        &s[self.start..self.end]
+    }
+}
+
+// A place in a file, from which the next record is cut. It goes by value, as document 01 has it; `RecordSpans` stands on it.
+#[derive(Clone, Copy, PartialEq, Eq)]
 pub struct Cursor {
     pub at: usize,
 }
 
-// The record from `start` up to `end`, with the cursor past it and its line feed; or none is left.
-#[derive(Clone, Copy)]
-pub enum Step {
-    Record {
-        start: usize,
-        end: usize,
-        next: Cursor,
-    },
-    Done,
-}
-
 impl Cursor {
-    // The next record of `s`.
-    pub fn step(self, s: &[u8]) -> Step
+    // The next record of `s`, and the cursor past it and its line feed. A last line feed opens no record.
+    pub fn step(self, s: &[u8]) -> Option<(Span, Cursor)>
         ensures { Stepped s.now self.at result }
     {
-        let at = self.at;
-        if s.len() <= at {
-            return Step::Done;
+        let start = self.at;
+        if s.len() <= start {
+            return None;
         }
-        let end = find_far(s, at, FEED);
-        if end < s.len() {
-            Step::Record {
-                start: at,
-                end: end,
-                next: Cursor { at: end + 1 },
-            }
-        } else {
-            Step::Record {
-                start: at,
-                end: end,
-                next: Cursor { at: end },
-            }
-        }
+        let end = find_far(s, start, FEED);
+        let at = if end < s.len() { end + 1 } else { end };
+        Some((Span { start, end }, Cursor { at }))
     }
 }
 
-// A place in a record, from which the next field is cut; past the end when none is left.
+// The records of some bytes that start at a place or behind it.
 #[derive(Clone, Copy)]
+pub struct RecordSpans<'a> {
+    pub bytes: &'a [u8],
+    pub at: usize,
+}
+
+impl<'a> RecordSpans<'a> {
+    // The records of a file, or of a sheet.
+    pub fn of(bytes: &'a [u8]) -> Self
+        ensures { (result.bytes.now ≡ bytes.now) × (result.at ≡ 0) }
+    {
+        RecordSpans { bytes, at: 0 }
+    }
+}
+
+impl<'a> Iterator for RecordSpans<'a> {
+    type Item = Span;
+
+    ghost use Rattle.std.specs.Iterator.{at_most};
+    ghost use Rattle.record.specs.Step.{RecordYielded};
+
+    ghost next_gives = { RecordYielded };
+
+    ghost remaining = { λ s. at_most (length s.bytes.now - s.at) };
+
+    // The next record.
+    fn next(&mut self) -> Option<Span> {
+        let (record, moved) = Cursor { at: self.at }.step(self.bytes)?;
+        self.at = moved.at;
+        Some(record)
+    }
+}
+
+// A place in a record, from which the next field is cut; past the end when none is left. It is no `Cursor` over another byte: a last
+// separator opens a field, and a last line feed no record.
+#[derive(Clone, Copy, PartialEq, Eq)]
 pub struct FieldCursor {
     pub at: usize,
 }
 
-// The field from `start` up to `end`, with the cursor past it and its separator; or none is left.
-#[derive(Clone, Copy)]
-pub enum FieldStep {
-    Field {
-        start: usize,
-        end: usize,
-        next: FieldCursor,
-    },
-    Done,
-}
-
 impl FieldCursor {
-    // The next field of the record `r`, parted by `sep`.
-    pub fn step(self, sep: u8, r: &[u8]) -> FieldStep
+    // The next field of the record `r`, parted by `sep`, and the cursor past it and its separator. A last separator opens a field.
+    pub fn step(self, sep: u8, r: &[u8]) -> Option<(Span, FieldCursor)>
         ensures { FieldStepped sep r.now self.at result }
     {
-        let at = self.at;
-        if r.len() < at {
-            return FieldStep::Done;
+        let start = self.at;
+        if r.len() < start {
+            return None;
         }
-        let end = find(r, at, sep);
-        FieldStep::Field {
-            start: at,
-            end: end,
-            next: FieldCursor { at: end + 1 },
-        }
+        let end = find(r, start, sep);
+        Some((Span { start, end }, FieldCursor { at: end + 1 }))
     }
 }
 
-// Where a part of some bytes stands, or that there is none.
+// The fields of a record from the byte at a place on, parted by `sep`.
 #[derive(Clone, Copy)]
-pub enum Found {
-    At { start: usize, end: usize },
-    Nothing,
+pub struct FieldSpans<'a> {
+    pub sep: u8,
+    pub bytes: &'a [u8],
+    pub at: usize,
+}
+
+impl<'a> FieldSpans<'a> {
+    // The fields of a record.
+    pub fn of(sep: u8, bytes: &'a [u8]) -> Self
+        ensures { (result.sep ≡ sep) × (result.bytes.now ≡ bytes.now) × (result.at ≡ 0) }
+    {
+        FieldSpans { sep, bytes, at: 0 }
+    }
+}
+
+impl<'a> Iterator for FieldSpans<'a> {
+    type Item = Span;
+
+    ghost use Rattle.std.specs.Iterator.{at_most};
+    ghost use Rattle.record.specs.Step.{FieldYielded};
+
+    ghost next_gives = { FieldYielded };
+
+    ghost remaining = { λ s. at_most (length s.bytes.now + 1 - s.at) };
+
+    // The next field.
+    fn next(&mut self) -> Option<Span> {
+        let (field, moved) = FieldCursor { at: self.at }.step(self.sep, self.bytes)?;
+        self.at = moved.at;
+        Some(field)
+    }
 }
 
 // Record n of a file, counted from 1.
-pub fn record_at(f: &[u8], n: usize) -> Found
+pub fn record_at(f: &[u8], n: usize) -> Option<Span>
     ensures { RecordFound f.now n result }
 {
     if n == 0 {
-        return Found::Nothing;
+        return None;
     }
-    let mut c = Cursor { at: 0 };
-    let mut left = n - 1;
-    loop {
-        match c.step(f) {
-            Step::Done => {
-                return Found::Nothing;
-            }
-            Step::Record { start, end, next } => {
-                if left == 0 {
-                    return Found::At {
-                        start: start,
-                        end: end,
-                    };
-                }
-                left -= 1;
-                c = next;
-            }
-        }
-    }
+    RecordSpans::of(f).nth(n - 1)
 }
 
 // Field k of a record whose fields are parted by `sep`, counted from 1.
-pub fn field_at(sep: u8, r: &[u8], k: usize) -> Found
+pub fn field_at(sep: u8, r: &[u8], k: usize) -> Option<Span>
     ensures { FieldFound sep r.now k result }
 {
     if k == 0 {
-        return Found::Nothing;
+        return None;
     }
-    let mut c = FieldCursor { at: 0 };
-    let mut left = k - 1;
-    loop {
-        match c.step(sep, r) {
-            FieldStep::Done => {
-                return Found::Nothing;
-            }
-            FieldStep::Field { start, end, next } => {
-                if left == 0 {
-                    return Found::At {
-                        start: start,
-                        end: end,
-                    };
-                }
-                left -= 1;
-                c = next;
-            }
-        }
-    }
-}
-
-// One where the byte `b` is `sep`, else nothing.
-fn parting(sep: u8, b: u8) -> usize
-    ensures { result ≡ cond (eqb b sep) 1 0 }
-{
-    if b == sep { 1 } else { 0 }
+    FieldSpans::of(sep, r).nth(k - 1)
 }
 
 // How many fields the record `r` has: one more than separators.
 pub fn count_fields(sep: u8, r: &[u8]) -> usize
     ensures { result ≡ length (fields sep r.now) }
 {
-    let mut n = 1;
-    let mut i = 0;
-    while i < r.len() {
-        n += parting(sep, r[i]);
-        i += 1;
-    }
-    n
+    r.iter().filter(|b| **b == sep).count() + 1
 }

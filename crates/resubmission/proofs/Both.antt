@@ -8,24 +8,25 @@ use native.Mathlib.Omega.{arith}
 use lib.Dec.{leb}
 use lib.ListN.{length}
 use borrow.Author.Tests.{le-leb, lt-leb, leb-true}
+use Rattle.std.specs.Prelude.{Result, Ok, Err}
 use Rattle.text.specs.Characters.{from_to}
 use Rattle.text.specs.Rules.{must}
 use Rattle.place.specs.Places.{whole}
+use Rattle.place.specs.declared.Refusal.{Refusal}
 use Rattle.flow.specs.Publication.{Flow, layout_for}
 use Rattle.flow.specs.Editions.{Asked, a_flow, no_flow}
 use Rattle.flow.specs.Proper.{Proper}
 use Rattle.flow.proofs.Proper.{ProperAsked}
 use Rattle.judge.specs.File.{placed_by, judged_for, judged, accepted, paper as judge_paper}
 use Rattle.judge.specs.Right.{Right}
-use Rattle.judge.specs.declared.Judged.{Judged}
-use Rattle.judge.specs.declared.Judged.TheVariants as files
 use Rattle.judge.proofs.Demand2.{right_asked, accepted_answer}
 use Rattle.resubmission.specs.declared.Which.{Which}
 use Rattle.resubmission.specs.declared.Which.TheVariants.{Original, Resubmission}
-use Rattle.resubmission.specs.declared.InForce.{InForce}
-use Rattle.resubmission.specs.declared.InForce.TheVariants.{Refused, NoSuch, Found}
+use Rattle.resubmission.specs.declared.Found.{Found}
+use Rattle.resubmission.specs.declared.NotFound.{NotFound}
+use Rattle.resubmission.specs.declared.NotFound.TheVariants.{Refused, NoSuch}
 use Rattle.resubmission.specs.Rows.{Pair, Row, row, end_of, rows_in, row_at}
-use Rattle.resubmission.specs.InForce.{of, holder, handed, read, in_force_by, in_force_for, in_force, paper, file_number, part, refused, between, bytes_by, Memory, lies_by, HandedBack}
+use Rattle.resubmission.specs.InForce.{of, found, holder, handed, read, in_force_by, in_force_for, in_force, paper, file_number, part, refused, between, bytes_by, Memory, lies_by, HandedBack}
 use Rattle.resubmission.specs.Plain.{OfPair, IsInForce}
 use Rattle.resubmission.proofs.Subjects.{both}
 use Rattle.resubmission.proofs.Standing.{lies_there}
@@ -38,35 +39,37 @@ of_rows flow p Resubmission a b = refl
 
 -- a file is not refused: it is accepted, and what comes after is said
 module _ {file : Which} {count start end : ℕ} where
-  read_through : (w : Which) (j : Judged) (after : InForce) → read w j after ≡ Found file count start end
-      → (k : ℕ) × (j ≡ files.Accepted k) × (after ≡ Found file count start end)
-  read_through w (files.Refused r) after e = absurd (let z : ◌≡◌ {A = ℕ} 0 1 = cc in omega arith)
-  read_through w (files.Accepted k) after e = (k, refl, e)
+  read_through : (w : Which) (j : Result ℕ Refusal) (after : Result Found NotFound) → read w j after ≡ Ok (found file count start end)
+      → (k : ℕ) × (j ≡ Ok k) × (after ≡ Ok (found file count start end))
+  read_through w (Err r) after e = absurd (let z : ◌≡◌ {A = ℕ} 0 1 = cc in omega arith)
+  read_through w (Ok k) after e = (k, refl, e)
 
   -- a row is handed back
-  handed_by_lem : (t : Bool) (w : Which) (rows : List Row) (x : Row) → must t (NoSuch (whole 23) (length rows)) (Found w (length rows) x.start (end_of x)) ≡ Found file count start end
+  handed_by_lem : (t : Bool) (w : Which) (rows : List Row) (x : Row) → must t (Err (NoSuch (whole 23) (length rows))) (Ok (found w (length rows) x.start (end_of x))) ≡ Ok (found file count start end)
       → (t ≡ true) × (file ≡ w) × (count ≡ length rows) × (start ≡ x.start) × (end ≡ end_of x)
-  handed_by_lem true w rows x e = (refl, cc, cc, cc, cc)
+  handed_by_lem true w rows x e =
+      let same : found w (length rows) x.start (end_of x) ≡ found file count start end = cc in
+      (refl, ap (λ (y : Found). y.file) (sym same), ap (λ (y : Found). y.number) (sym same), ap (λ (y : Found). y.start) (sym same), ap (λ (y : Found). y.end) (sym same))
   handed_by_lem false w rows x e = absurd (let z : ◌≡◌ {A = ℕ} 0 1 = cc in omega arith)
 
 -- the answer in the papers' terms is of that form
 module _ {count start end : ℕ} where
-  paper_found : (number : ℕ) (x : InForce) → paper x ≡ part number count start end → (w : Which) × (x ≡ Found w count start end) × (file_number w ≡ number)
-  paper_found number (Refused r w) e = absurd (let z : ◌≡◌ {A = ℕ} 0 1 = cc in omega arith)
-  paper_found number (NoSuch r m) e = absurd (let z : ◌≡◌ {A = ℕ} 0 1 = cc in omega arith)
-  paper_found number (Found w m s f) e =
-      let a : m ≡ count = cc in
-      let b : s ≡ start = cc in
-      let c : f ≡ end = cc in
-      let d : file_number w ≡ number = cc in
-      (w, λ i. Found w (a i) (b i) (c i), d)
+  paper_found : (number : ℕ) (x : Result Found NotFound) → paper x ≡ part number count start end → (w : Which) × (x ≡ Ok (found w count start end)) × (file_number w ≡ number)
+  paper_found number (Err (Refused r w)) e = absurd (let z : ◌≡◌ {A = ℕ} 0 1 = cc in omega arith)
+  paper_found number (Err (NoSuch r m)) e = absurd (let z : ◌≡◌ {A = ℕ} 0 1 = cc in omega arith)
+  paper_found number (Ok it) e =
+      let a : it.number ≡ count = cc in
+      let b : it.start ≡ start = cc in
+      let c : it.end ≡ end = cc in
+      let d : file_number it.file ≡ number = cc in
+      (it.file, λ i. Ok (found it.file (a i) (b i) (c i)), d)
 
 -- what is known of a record that is found: both files are accepted, and it is row n of the holder's
 record Known (flow : Flow) (a b : List ℕ) (p : Pair) (n : ℕ) (file : Which) (count start end : ℕ) : Type 0 where
   first : ℕ
-  original : placed_by (layout_for flow) a ≡ files.Accepted first
+  original : placed_by (layout_for flow) a ≡ Ok first
   second : ℕ
-  resubmission : placed_by (layout_for flow) b ≡ files.Accepted second
+  resubmission : placed_by (layout_for flow) b ≡ Ok second
   holds : file ≡ holder (rows_in flow p b)
   least : 1 ≤ n
   most : n ≤ count
@@ -81,7 +84,7 @@ module _ (flow : Flow) (a b : List ℕ) (p : Pair) where
   abbrev the_rows : List Row
   the_rows = rows_in flow p (of the_holder a b)
 
-  known : (n : ℕ) {file : Which} {count start end : ℕ} → in_force_by flow a b p n ≡ Found file count start end → Known flow a b p n file count start end
+  known : (n : ℕ) {file : Which} {count start end : ℕ} → in_force_by flow a b p n ≡ Ok (found file count start end) → Known flow a b p n file count start end
   unfolding in_force_by handed
   known n e =
       let x = read_through Original (placed_by (layout_for flow) a) _ e in
@@ -101,40 +104,40 @@ module _ (flow : Flow) (a b : List ℕ) (p : Pair) where
         ends = z.4 ∙ ap (λ (w : Which). end_of (row_at (rows_in flow p (of w a b)) n)) (sym z.1);
       }
 
-  module _ {i j : ℕ} (first : placed_by (layout_for flow) a ≡ files.Accepted i) (second : placed_by (layout_for flow) b ≡ files.Accepted j) where
+  module _ {i j : ℕ} (first : placed_by (layout_for flow) a ≡ Ok i) (second : placed_by (layout_for flow) b ≡ Ok j) where
     -- both files accepted, the holder's rows tell
     by_holder : (n : ℕ) → in_force_by flow a b p n ≡ handed the_holder the_rows n
     unfolding in_force_by
     by_holder n = rw (first, second) (ap (λ (rows : List Row). handed the_holder rows n) (of_rows flow p the_holder a b))
 
-    found_there : (n : ℕ) → 1 ≤ n → n ≤ length the_rows → in_force_by flow a b p n ≡ Found the_holder (length the_rows) (row_at the_rows n).start (end_of (row_at the_rows n))
+    found_there : (n : ℕ) → 1 ≤ n → n ≤ length the_rows → in_force_by flow a b p n ≡ Ok (found the_holder (length the_rows) (row_at the_rows n).start (end_of (row_at the_rows n)))
     unfolding handed
     found_there n l m = by_holder n ∙ rw (le-leb 1 n l, le-leb n (length the_rows) m)
 
-    none_there : (n : ℕ) → (n ≡ 0) ⊎ (length the_rows < n) → in_force_by flow a b p n ≡ NoSuch (whole 23) (length the_rows)
+    none_there : (n : ℕ) → (n ≡ 0) ⊎ (length the_rows < n) → in_force_by flow a b p n ≡ Err (NoSuch (whole 23) (length the_rows))
     unfolding handed
     none_there n (inl e) = by_holder n ∙ rw e
     none_there n (inr l) = by_holder n ∙ rw (le-leb 1 n (omega (arith, l)), lt-leb n (length the_rows) l)
 
   -- the record found lies in its file
-  pub found_within : (n : ℕ) {file : Which} {count start end : ℕ} → in_force_by flow a b p n ≡ Found file count start end → (start ≤ end) × (end ≤ length (of file a b))
+  pub found_within : (n : ℕ) {file : Which} {count start end : ℕ} → in_force_by flow a b p n ≡ Ok (found file count start end) → (start ≤ end) × (end ≤ length (of file a b))
   found_within n {file} e =
       let x = known n e in
       let within = row_within flow p (of file a b) n in
       (omega (arith, x.starts, x.ends), omega (arith, x.ends, within))
 
 -- the same for what is asked
-pub part_within : (asks : Asked) (a b : List ℕ) (p : Pair) (n : ℕ) {file : Which} {count start end : ℕ} → in_force_for asks a b p n ≡ Found file count start end
+pub part_within : (asks : Asked) (a b : List ℕ) (p : Pair) (n : ℕ) {file : Which} {count start end : ℕ} → in_force_for asks a b p n ≡ Ok (found file count start end)
     → (start ≤ end) × (end ≤ length (of file a b))
 unfolding in_force_for
 part_within (a_flow flow) a b p n e = found_within flow a b p n e
 part_within (no_flow r) a b p n e = absurd (let z : ◌≡◌ {A = ℕ} 0 1 = cc in omega arith)
 
 -- what is handed back, by the answer
-pub handed_back : (a b : List ℕ) (at_a at_b : Memory) (x said : InForce) → x ≡ said → HandedBack said a b at_a at_b (bytes_by x a b) (lies_by x at_a at_b)
-handed_back a b at_a at_b x said e = record { holds = ap (λ (y : InForce). bytes_by y a b) e; lies = ap (λ (y : InForce). lies_by y at_a at_b) e }
+pub handed_back : (a b : List ℕ) (at_a at_b : Memory) (x said : Result Found NotFound) → x ≡ said → HandedBack said a b at_a at_b (bytes_by x a b) (lies_by x at_a at_b)
+handed_back a b at_a at_b x said e = record { holds = ap (λ (y : Result Found NotFound). bytes_by y a b) e; lies = ap (λ (y : Result Found NotFound). lies_by y at_a at_b) e }
 
-pub handed_part : (a b : List ℕ) (at_a at_b : Memory) (x said : InForce) → x ≡ said → {bytes : List ℕ} {at : Memory} → (bytes ≡ bytes_by x a b) × (at ≡ lies_by x at_a at_b)
+pub handed_part : (a b : List ℕ) (at_a at_b : Memory) (x said : Result Found NotFound) → x ≡ said → {bytes : List ℕ} {at : Memory} → (bytes ≡ bytes_by x a b) × (at ≡ lies_by x at_a at_b)
     → HandedBack said a b at_a at_b bytes at
 handed_part a b at_a at_b x said e cut =
     let back = handed_back a b at_a at_b x said e in
@@ -146,7 +149,7 @@ own_bytes flow p f r x =
     ap (λ (n : ℕ). between f n (n + length r.bytes)) x.starts ∙ (lies_there f x.before r.bytes x.after x.stands).is
 
 -- a file that is accepted is right
-is_right : (flow : Flow) → Proper flow → (f : List ℕ) (n : ℕ) → placed_by (layout_for flow) f ≡ files.Accepted n → Right (a_flow flow) f n
+is_right : (flow : Flow) → Proper flow → (f : List ℕ) (n : ℕ) → placed_by (layout_for flow) f ≡ Ok n → Right (a_flow flow) f n
 unfolding judged judged_for
 is_right flow proper f n e = (right_asked f n (a_flow flow) proper).0 (ap judge_paper e)
 
@@ -225,12 +228,12 @@ module _ (asks : Asked) (a b : List ℕ) (p : Pair) where
       let x = paper_found number (in_force_for asks a b p n) e in
       (x.0, x.2, by asks proper x.1)
     where
-      by : (y : Asked) → ProperAsked y → {file : Which} {count start end : ℕ} → in_force_for y a b p n ≡ Found file count start end → IsInForce y a b p file count start end
+      by : (y : Asked) → ProperAsked y → {file : Which} {count start end : ℕ} → in_force_for y a b p n ≡ Ok (found file count start end) → IsInForce y a b p file count start end
       by (a_flow flow) q h = plainly flow q a b p n (known flow a b p n h)
       by (no_flow r) q h = absurd (let z : ◌≡◌ {A = ℕ} 0 1 = cc in omega arith)
 
   -- what two answers have in common
-  two : (y : Asked) (n m : ℕ) {v w : Which} {c d s t e g : ℕ} → in_force_for y a b p n ≡ Found v c s e → in_force_for y a b p m ≡ Found w d t g
+  two : (y : Asked) (n m : ℕ) {v w : Which} {c d s t e g : ℕ} → in_force_for y a b p n ≡ Ok (found v c s e) → in_force_for y a b p m ≡ Ok (found w d t g)
       → (v ≡ w) × (c ≡ d) × (n < m → s < t)
   unfolding in_force_for
   two (a_flow flow) n m h k = two_found flow a b p n m (known flow a b p n h) (known flow a b p m k)

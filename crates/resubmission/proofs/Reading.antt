@@ -7,14 +7,16 @@ use native.Mathlib.Decide.{ℕ_discrete, dec_lt}
 use native.Mathlib.Omega.{arith}
 use lib.Dec.{eqb}
 use lib.ListN.{length, take, drop, get_or, length-append}
-use borrow.Author.Tests.{eq-eqb, ne_eqb}
+use borrow.Author.Tests.{eq-eqb, ne_eqb, le-leb, lt-leb}
+use Rattle.std.specs.Prelude.{Some, None}
+use Rattle.record.specs.declared.Span.{Span}
 use Rattle.record.specs.Records.{records, fields, field, extent}
 use Rattle.record.specs.Step.{IsRecord}
 use Rattle.record.proofs.Cursors.{records_end, part_length}
 use Rattle.record.proofs.Search.{extent_snoc}
 use Rattle.flow.specs.Publication.{Flow}
-use Rattle.resubmission.specs.Rows.{Pair, Row, row, end_of, is_sb1, is_subject, is_of_group, last_sb1, under_subject, rows_from, rows_in, row_at}
-use Rattle.resubmission.specs.Code.{told_of, one_more}
+use Rattle.resubmission.specs.Rows.{Pair, Row, row, is_sb1, is_subject, is_of_group, last_sb1, under_subject, rows_from, row_at}
+use Rattle.resubmission.specs.Code.{span_of, nth_of, told_of, one_more}
 use Rattle.resubmission.specs.declared.Rows.{Rows}
 
 -- the last SB1 with one record more: that record, where it is one
@@ -75,28 +77,48 @@ row_snoc rows x (suc i) = by (ℕ_discrete (length rows) i)
     by (yes e) = rw (eq-eqb (length rows + 1) (suc i) (omega (arith, e))) (new_row rows x i e)
     by (no e) = rw (ne_eqb (length rows + 1) (suc i) (λ h. e (omega (arith, h)))) (old_row rows x i e)
 
--- what is told, with one row more
-told_by : (t : Bool) (told : Rows) (n : ℕ) (x y : Row) (m : ℕ) → m ≡ told.number + 1 → told.start ≡ y.start → told.end ≡ end_of y
-    → eqb (told.number + 1) n ≡ t → one_more told n x.start (end_of x) ≡ record { number = m; start = (cond t x y).start; end = end_of (cond t x y) }
-unfolding one_more
-told_by true told n x y m e s f t = rw (t, e)
-told_by false told n x y m e s f t = rw (t, e, s, f)
+-- where row n stands, with one row more
+nth_snoc : (rows : List Row) (x : Row) (n : ℕ) → cond (eqb (length rows + 1) n) (Some (span_of x)) (nth_of rows n) ≡ nth_of (rows ++ x ∷ []) n
+nth_snoc rows x n = by (ℕ_discrete (length rows + 1) n) (dec_lt (length rows + 1) n) (dec_lt 0 n)
+  where
+    long : length (rows ++ x ∷ []) ≡ length rows + 1
+    long = length-append rows (x ∷ [])
 
-told_snoc : (rows : List Row) (x : Row) (n : ℕ) → one_more (told_of rows n) n x.start (end_of x) ≡ told_of (rows ++ x ∷ []) n
-told_snoc rows x n =
-    told_by (eqb (length rows + 1) n) (told_of rows n) n x (row_at rows n) (length (rows ++ x ∷ [])) (length-append rows (x ∷ [])) refl refl refl
-    ∙ ap (λ (y : Row). record { number = length (rows ++ x ∷ []); start = y.start; end = end_of y }) (sym (row_snoc rows x n))
+    by : Dec (length rows + 1 ≡ n) → Dec (length rows + 1 < n) → Dec (0 < n) → cond (eqb (length rows + 1) n) (Some (span_of x)) (nth_of rows n) ≡ nth_of (rows ++ x ∷ []) n
+    by (yes e) over some =
+        rw (row_snoc rows x n, eq-eqb (length rows + 1) n e, le-leb 1 n (omega arith), le-leb n (length (rows ++ x ∷ [])) (omega (arith, long, e)))
+    by (no e) (yes over) some =
+        rw (ne_eqb (length rows + 1) n e, le-leb 1 n (omega arith), lt-leb n (length rows) (omega arith), lt-leb n (length (rows ++ x ∷ [])) (omega (arith, long)))
+    by (no e) (no over) (yes some) =
+        rw (row_snoc rows x n, ne_eqb (length rows + 1) n e, le-leb 1 n (omega arith), le-leb n (length rows) (omega arith), le-leb n (length (rows ++ x ∷ [])) (omega (arith, long)))
+    by (no e) (no over) (no none-asked) = rw (ne_eqb (length rows + 1) n e, lt-leb 1 n (omega arith))
+
+-- what is told, with one row more
+told_snoc : (rows : List Row) (x : Row) (n : ℕ) → one_more (told_of rows n) n (span_of x) ≡ told_of (rows ++ x ∷ []) n
+unfolding one_more
+told_snoc rows x n = λ i. record { number = sym (length-append rows (x ∷ [])) i; nth = nth_snoc rows x n i }
 
 -- or with none
 tell_by : (t : Bool) (rows : List Row) (x : Row) (n : ℕ)
-    → cond t (one_more (told_of rows n) n x.start (end_of x)) (told_of rows n) ≡ told_of (rows ++ cond t (x ∷ []) []) n
+    → cond t (one_more (told_of rows n) n (span_of x)) (told_of rows n) ≡ told_of (rows ++ cond t (x ∷ []) []) n
 tell_by true rows x n = told_snoc rows x n
 tell_by false rows x n = ap (λ (l : List Row). told_of l n) (sym (append-nil rows))
 
-few_by : (t : Bool) (told : Rows) (n a e k : ℕ) → told.number ≤ k → (cond t (one_more told n a e) told).number ≤ k + 1
+few_by : (t : Bool) (told : Rows) (n : ℕ) (s : Span) (k : ℕ) → told.number ≤ k → (cond t (one_more told n s) told).number ≤ k + 1
 unfolding one_more
-few_by true told n a e k h = omega (arith, h)
-few_by false told n a e k h = omega (arith, h)
+few_by true told n s k h = omega (arith, h)
+few_by false told n s k h = omega (arith, h)
+
+-- a record under the subject and of the group is a row more; any other is none
+module _ (u g : Bool) (more rows : Rows) where
+  pub row_more : u ≡ true → g ≡ true → more ≡ cond (u && g) more rows
+  row_more e f = rw (e, f)
+
+  pub other_subject : u ≡ false → rows ≡ cond (u && g) more rows
+  other_subject e = rw e
+
+  pub other_group : u ≡ true → g ≡ false → rows ≡ cond (u && g) more rows
+  other_group e f = rw (e, f)
 
 -- what the reading keeps: the records read, whether they end under the subject, and what is told of their rows
 pub record Reading (flow : Flow) (p : Pair) (f : List ℕ) (n at : ℕ) (under : Bool) (told : Rows) : Type 0 where
@@ -108,21 +130,15 @@ pub record Reading (flow : Flow) (p : Pair) (f : List ℕ) (n at : ℕ) (under :
   pub few : told.number ≤ at
 
 module _ (flow : Flow) (p : Pair) (f : List ℕ) (n : ℕ) where
-  pub from_start : Reading flow p f n 0 false (record { number = 0; start = 0; end = 0 })
+  pub from_start : Reading flow p f n 0 false (record { number = 0; nth = None })
   unfolding last_sb1 field fields rows_from row_at extent
   from_start = record { before = []; every = refl; place = λ _. refl; is_under = refl; tells = at_zero n; few = omega arith }
     where
-      at_zero : (k : ℕ) → record { number = 0; start = 0; end = 0 } ≡ told_of [] k
+      at_zero : (k : ℕ) → record { number = 0; nth = None } ≡ told_of [] k
       at_zero zero = refl
-      at_zero (suc i) = refl
+      at_zero (suc i) = rw (le-leb 1 (suc i) (omega arith), lt-leb (suc i) 0 (omega arith))
 
   module _ (at : ℕ) (under : Bool) (told : Rows) (x : Reading flow p f n at under told) where
-    -- no records are left
-    pub all_read : records (drop at f) ≡ [] → told ≡ told_of (rows_in flow p f) n
-    all_read e =
-        let all : x.before ≡ records f = sym (append-nil x.before) ∙ ap (λ (l : List (List ℕ)). x.before ++ l) (sym e) ∙ x.every in
-        x.tells ∙ ap (λ (l : List (List ℕ)). told_of (rows_from flow p [] l) n) all
-
     module _ {a e m : ℕ} (y : IsRecord f at a e m) where
       abbrev r : List ℕ
       r = take (e - a) (drop a f)
@@ -154,7 +170,7 @@ module _ (flow : Flow) (p : Pair) (f : List ℕ) (n : ℕ) where
       more = sym (rows_append flow p [] x.before (r ∷ []))
 
       -- one record more is read
-      pub one_read : (t : Rows) → t ≡ cond (under && is_of_group p.group r) (one_more told n a e) told
+      pub one_read : (t : Rows) → t ≡ cond (under && is_of_group p.group r) (one_more told n (record { start = a; end = e })) told
           → (u : Bool) → u ≡ cond (is_sb1 r) (is_subject flow p.id p.date r) under → Reading flow p f n m u t
       one_read t is u now =
           record {
@@ -165,10 +181,10 @@ module _ (flow : Flow) (p : Pair) (f : List ℕ) (n : ℕ) where
                 now ∙ ap (cond (is_sb1 r) (is_subject flow p.id p.date r)) x.is_under ∙ under_snoc flow p x.before r;
             tells =
                 is
-                ∙ (λ i. cond (x.is_under i && is_of_group p.group r) (one_more (x.tells i) n (starts i) (ends i)) (x.tells i))
+                ∙ (λ i. cond (x.is_under i && is_of_group p.group r) (one_more (x.tells i) n (record { start = starts i; end = ends i })) (x.tells i))
                 ∙ tell_by (under_subject flow p x.before && is_of_group p.group r) rows (row (extent x.before) r) n
                 ∙ ap (λ (l : List Row). told_of l n) more;
             few =
-                let fewer = few_by (under && is_of_group p.group r) told n a e at x.few in
+                let fewer = few_by (under && is_of_group p.group r) told n (record { start = a; end = e }) at x.few in
                 omega (arith, ap (λ (k : Rows). k.number) is, fewer, y.onward);
           }

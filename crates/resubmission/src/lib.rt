@@ -1,22 +1,21 @@
 // The records in force of an original P0133001 file and its resubmission.
 #![tactic(auto)]
 
-ghost use Rattle.std.specs.Prelude.{◌≡◌, cond, ◌&&◌, ◌+◌, ◌≤◌, ◌<◌, ◌^◌, length};
+ghost use Rattle.std.specs.Prelude.{◌≡◌, cond, ◌+◌, ◌≤◌, ◌<◌, ◌^◌, length, Ok};
 ghost use Rattle.layout.specs.Numbers.{layout_of};
-ghost use Rattle.flow.specs.Publication.{layout_for};
 ghost use Rattle.flow.specs.Flows.{flow_at};
 ghost use Rattle.flow.specs.Editions.{asked, told};
+ghost use Rattle.judge.specs.File.{placed_by};
 ghost use Rattle.resubmission.specs.Rows.{pair, is_sb1, is_subject, is_of_group, id_field, date_field, rows_in};
-ghost use Rattle.resubmission.specs.InForce.{words_in, by_rows, in_force_by, in_force_for, in_force, file_number, paper, of, between, further, HandedBack};
-ghost use Rattle.resubmission.specs.Code.{told_of, one_more, handed_by};
+ghost use Rattle.resubmission.specs.InForce.{words_in, read, by_rows, in_force_by, in_force_for, in_force, file_number, paper, of, between, further, HandedBack};
+ghost use Rattle.resubmission.specs.Code.{pair_of, told_of, one_more, handed_by};
 
-use flow::Named;
-use judge::Judged;
+use flow::Table;
 use place::Refusal;
-use record::{BAR, Cursor, Step};
+use record::{BAR, RecordSpans, Span};
 
 // Which of the two files.
-#[derive(Clone, Copy)]
+#[derive(Clone, Copy, PartialEq, Eq, Debug)]
 pub enum Which {
     Original,
     Resubmission,
@@ -32,51 +31,52 @@ pub fn file_number(file: Which) -> usize
     }
 }
 
-// What is said of the n-th record in force: the reader's refusal of one of the files; 23, with the number in force; or the file that
-// holds it, that number, and where the record starts and ends there.
-#[derive(Clone, Copy)]
-pub enum InForce {
-    Refused {
-        refusal: Refusal,
-        file: Which,
-    },
-    NoSuch {
-        refusal: Refusal,
-        number: usize,
-    },
-    Found {
-        file: Which,
-        number: usize,
-        start: usize,
-        end: usize,
-    },
+// A record in force: the file that holds it, how many are in force, and where it starts and ends there.
+#[derive(Clone, Copy, PartialEq, Eq, Debug)]
+pub struct Found {
+    pub file: Which,
+    pub number: usize,
+    pub start: usize,
+    pub end: usize,
 }
 
-// A pair's records in a file: how many they are, and where the n-th starts and ends; 0 and 0 where there is none.
+// Why there is none: the reader's refusal of one of the files; or 23, with the number in force.
+#[derive(Clone, Copy)]
+pub enum NotFound {
+    Refused { refusal: Refusal, file: Which },
+    NoSuch { refusal: Refusal, number: usize },
+}
+
+// What is asked for: a subject's participant id and period end date, and a GSP Group.
+#[derive(Clone, Copy)]
+struct Pair<'a> {
+    id: &'a [u8],
+    date: &'a [u8],
+    group: &'a [u8],
+}
+
+// A pair's records in a file: how many they are, and where the n-th starts and ends, if they come to it.
 #[derive(Clone, Copy)]
 struct Rows {
     number: usize,
-    start: usize,
-    end: usize,
+    nth: Option<Span>,
 }
 
 // P0133001 in an edition, which is empty where none is named.
-fn flow_in(edition: &[u8]) -> Named
+#[tactic(auto, using(crate::proofs::Fields::not_named))]
+fn flow_in(edition: &[u8]) -> Result<usize, Refusal>
     ensures { told result ≡ asked (words_in edition.now) }
 {
-    if edition.len() == 0 {
-        return flow::find(b"P0133001");
+    match edition {
+        b"" => flow::find(b"P0133001"),
+        b"533" => flow::find(b"P0133001 533"),
+        b"711" => flow::find(b"P0133001 711"),
+        _ => Err(place::whole(21)),
     }
-    if text::same_bytes(b"533", edition) {
-        return flow::find(b"P0133001 533");
-    }
-    if text::same_bytes(b"711", edition) {
-        return flow::find(b"P0133001 711");
-    }
-    Named::Refused(place::whole(21))
 }
 
 // The field of an SB1 that is the id, in flow number m.
+#[tactic(auto, using(crate::proofs::Fields::no_id), unfolding(crate::specs::Rows::id_field, crate::specs::Rows::first_free))]
 fn id_field(m: usize) -> usize
     ensures { result ≡ id_field (flow_at m) }
 {
@@ -88,6 +88,7 @@ fn id_field(m: usize) -> usize
 }
 
 // The field of an SB1 that is the date.
+#[tactic(auto, using(crate::proofs::Fields::id_small), unfolding(crate::specs::Rows::date_field))]
 fn date_field(m: usize) -> usize
     ensures { result ≡ date_field (flow_at m) }
 {
@@ -95,150 +96,121 @@ fn date_field(m: usize) -> usize
 }
 
 // Under the subject, the record r read: an SB1 decides anew, behind any other record it is as before.
-fn under_subject(m: usize, r: &[u8], id: &[u8], date: &[u8], before: bool) -> bool
-    ensures { result ≡ cond (is_sb1 r.now) (is_subject (flow_at m) id.now date.now r.now) before }
+#[tactic(auto, using(words::proofs::Bytewise::by_bytes_first, words::proofs::Bytewise::same_pointwise))]
+fn under_subject(m: usize, r: &[u8], asks: &Pair, before: bool) -> bool
+    ensures { result ≡ cond (is_sb1 r.now) (is_subject (flow_at m) asks.now.id.now asks.now.date.now r.now) before }
 {
-    if !text::same_bytes(b"SB1", words::part(BAR, r, 1)) {
-        return before;
+    match words::part(BAR, r, 1) {
+        b"SB1" => {
+            asks.id == words::part(BAR, r, id_field(m))
+                && asks.date == words::part(BAR, r, date_field(m))
+        }
+        _ => before,
     }
-    if !text::same_bytes(id, words::part(BAR, r, id_field(m))) {
-        return false;
-    }
-    text::same_bytes(date, words::part(BAR, r, date_field(m)))
 }
 
 // A CM1 of the group.
+#[tactic(auto, using(words::proofs::Bytewise::by_bytes_first, words::proofs::Bytewise::same_pointwise))]
 fn is_of_group(r: &[u8], group: &[u8]) -> bool
     ensures { result ≡ is_of_group group.now r.now }
 {
-    if !text::same_bytes(b"CM1", words::part(BAR, r, 1)) {
-        return false;
+    match words::part(BAR, r, 1) {
+        b"CM1" => group == words::part(BAR, r, 2),
+        _ => false,
     }
-    text::same_bytes(group, words::part(BAR, r, 2))
 }
 
 // One row more, which is the asked one where it is the n-th.
-fn one_more(rows: Rows, n: usize, start: usize, end: usize) -> Rows
+#[tactic(auto, unfolding(crate::specs::Code::one_more))]
+fn one_more(rows: Rows, n: usize, row: Span) -> Rows
     requires { rows.number + 1 < 2 ^ 64 }
-    ensures { result ≡ one_more rows n start end }
+    ensures { result ≡ one_more rows n row }
 {
     let number = rows.number + 1;
     if number == n {
         return Rows {
-            number: number,
-            start: start,
-            end: end,
+            number,
+            nth: Some(row),
         };
     }
-    Rows {
-        number: number,
-        start: rows.start,
-        end: rows.end,
-    }
+    Rows { number, ..rows }
 }
 
-// The rows once the record r, from start to end, is read: it is a row where it stands under the subject and is of the group.
-fn with_record(
-    rows: Rows,
-    n: usize,
-    r: &[u8],
-    start: usize,
-    end: usize,
-    under: bool,
-    group: &[u8],
-) -> Rows
-    requires { rows.number + 1 < 2 ^ 64 }
-    ensures { result ≡ cond (under && is_of_group group.now r.now) (one_more rows n start end) rows }
+// The records of the pair in a file, in its order: those of the group under each SB1 of the subject.
+fn rows_in(m: usize, f: &[u8], asks: &Pair, n: usize) -> Rows
+    ensures { result ≡ told_of (rows_in (flow_at m) (pair_of asks.now) f.now) n }
 {
-    if !under {
-        return rows;
-    }
-    if !is_of_group(r, group) {
-        return rows;
-    }
-    one_more(rows, n, start, end)
-}
-
-// The records of the pair in a file, in its order: those under each SB1 of the subject.
-fn rows_in(m: usize, f: &[u8], id: &[u8], date: &[u8], group: &[u8], n: usize) -> Rows
-    ensures { result ≡ told_of (rows_in (flow_at m) (pair id.now date.now group.now) f.now) n }
-{
-    let mut records = Cursor { at: 0 };
     let mut under = false;
     let mut rows = Rows {
         number: 0,
-        start: 0,
-        end: 0,
+        nth: None,
     };
-    loop {
-        let Step::Record { start, end, next } = records.step(f) else {
-            return rows;
-        };
-        rows = with_record(rows, n, &f[start..end], start, end, under, group);
-        under = under_subject(m, &f[start..end], id, date, under);
-        records = next;
+    for record in RecordSpans::of(f) {
+        let r = record.of(f);
+        if under && is_of_group(r, asks.group) {
+            rows = one_more(rows, n, record);
+        }
+        under = under_subject(m, r, asks, under);
     }
+    rows
 }
 
-// Record n of the rows in force: 23 where n is 0 or above their number.
-fn handed(file: Which, rows: Rows, n: usize) -> InForce
-    ensures { result ≡ handed_by file rows n }
+// The asked one of the rows in force: 23 where they do not come to it.
+fn handed(file: Which, rows: Rows) -> Result<Found, NotFound>
+    ensures { result ≡ handed_by file rows }
 {
-    if n == 0 {
-        return InForce::NoSuch {
+    let number = rows.number;
+    let Some(row) = rows.nth else {
+        return Err(NotFound::NoSuch {
             refusal: place::whole(23),
-            number: rows.number,
-        };
-    }
-    if rows.number < n {
-        return InForce::NoSuch {
-            refusal: place::whole(23),
-            number: rows.number,
-        };
-    }
-    InForce::Found {
-        file: file,
-        number: rows.number,
-        start: rows.start,
-        end: rows.end,
-    }
+            number,
+        });
+    };
+    Ok(Found {
+        file,
+        number,
+        start: row.start,
+        end: row.end,
+    })
 }
 
 // The resubmission's records are in force if it has any, else the original's.
-fn by_rows(m: usize, a: &[u8], b: &[u8], id: &[u8], date: &[u8], group: &[u8], n: usize) -> InForce
-    ensures { result ≡ by_rows (rows_in (flow_at m) (pair id.now date.now group.now) a.now) (rows_in (flow_at m) (pair id.now date.now group.now) b.now) n }
+#[tactic(auto, using(crate::proofs::Answers::original_holds, crate::proofs::Answers::resubmission_holds))]
+fn by_rows(m: usize, a: &[u8], b: &[u8], asks: &Pair, n: usize) -> Result<Found, NotFound>
+    ensures { result ≡ by_rows (rows_in (flow_at m) (pair_of asks.now) a.now) (rows_in (flow_at m) (pair_of asks.now) b.now) n }
 {
-    let rows = rows_in(m, b, id, date, group, n);
+    let rows = rows_in(m, b, asks, n);
     if rows.number == 0 {
-        return handed(Which::Original, rows_in(m, a, id, date, group, n), n);
+        return handed(Which::Original, rows_in(m, a, asks, n));
     }
-    handed(Which::Resubmission, rows, n)
+    handed(Which::Resubmission, rows)
+}
+
+// A file is judged by a table: the reader's refusal says which file it is.
+fn judged(table: &Table, f: &[u8], file: Which) -> Result<(), NotFound>
+    ensures { result ≡ read file (placed_by (layout_of table.now.numbers table.now.fixed) f.now) (Ok tt) }
+{
+    judge::judge_by(&table.numbers, &table.fixed, f).map_err(|refusal| NotFound::Refused {
+        refusal,
+        file,
+    })?;
+    Ok(())
 }
 
 // For flow number m: the original is judged, then the resubmission.
-fn in_flow(m: usize, a: &[u8], b: &[u8], id: &[u8], date: &[u8], group: &[u8], n: usize) -> InForce
-    ensures { result ≡ in_force_by (flow_at m) a.now b.now (pair id.now date.now group.now) n }
+#[tactic(auto, using(crate::proofs::Answers::original_refused, crate::proofs::Answers::resubmission_refused, crate::proofs::Answers::both_read))]
+fn in_flow(m: usize, a: &[u8], b: &[u8], asks: &Pair, n: usize) -> Result<Found, NotFound>
+    ensures { result ≡ in_force_by (flow_at m) a.now b.now (pair_of asks.now) n }
 {
     let table = flow::table_of(m);
-    let numbers = table.numbers;
-    let fixed = table.fixed;
-    match judge::judge_by(&numbers, &fixed, a) {
-        Judged::Refused(refusal) => InForce::Refused {
-            refusal: refusal,
-            file: Which::Original,
-        },
-        Judged::Accepted(_) => match judge::judge_by(&numbers, &fixed, b) {
-            Judged::Refused(refusal) => InForce::Refused {
-                refusal: refusal,
-                file: Which::Resubmission,
-            },
-            Judged::Accepted(_) => by_rows(m, a, b, id, date, group, n),
-        },
-    }
+    judged(&table, a, Which::Original)?;
+    judged(&table, b, Which::Resubmission)?;
+    by_rows(m, a, b, asks, n)
 }
 
 // Where the n-th record in force stands of an original and a resubmission, both P0133001 of one edition, for a participant id, a period
 // end date and a GSP Group. Any bytes, any number; no edition named is an empty one.
+#[tactic(auto, using(crate::proofs::Answers::no_flow_lem, crate::proofs::Answers::by_flow))]
 pub fn in_force(
     edition: &[u8],
     original: &[u8],
@@ -247,26 +219,24 @@ pub fn in_force(
     date: &[u8],
     group: &[u8],
     n: usize,
-) -> InForce
+) -> Result<Found, NotFound>
     ensures { paper result ≡ in_force (asked (words_in edition.now)) original.now resubmission.now (pair id.now date.now group.now) n }
 {
-    match flow_in(edition) {
-        Named::Refused(refusal) => InForce::Refused {
-            refusal: refusal,
-            file: Which::Original,
-        },
-        Named::Flow(m) => in_flow(m, original, resubmission, id, date, group, n),
-    }
+    let m = flow_in(edition).map_err(|refusal| NotFound::Refused {
+        refusal,
+        file: Which::Original,
+    })?;
+    in_flow(m, original, resubmission, &Pair { id, date, group }, n)
 }
 
-// The bytes from start to end of one of the two files.
-fn part_of<'a>(file: Which, a: &'a [u8], b: &'a [u8], start: usize, end: usize) -> &'a [u8]
-    requires { (start ≤ end) × (end ≤ length (of file a.now b.now)) }
-    ensures { (result.now ≡ between (of file a.now b.now) start end) × (result.ref_ptr ≡ further (of file a.entry.ref_ptr b.entry.ref_ptr) start) }
+// The bytes of a record in force, in one of the two files.
+fn part_of<'a>(found: Found, a: &'a [u8], b: &'a [u8]) -> &'a [u8]
+    requires { (found.start ≤ found.end) × (found.end ≤ length (of found.file a.now b.now)) }
+    ensures { (result.now ≡ between (of found.file a.now b.now) found.start found.end) × (result.ref_ptr ≡ further (of found.file a.entry.ref_ptr b.entry.ref_ptr) found.start) }
 {
-    match file {
-        Which::Original => &a[start..end],
-        Which::Resubmission => &b[start..end],
+    match found.file {
+        Which::Original => &a[found.start..found.end],
+        Which::Resubmission => &b[found.start..found.end],
     }
 }
 
@@ -283,19 +253,7 @@ pub fn record_in_force<'a>(
     ensures { HandedBack (in_force_for (asked (words_in edition.now)) original.now resubmission.now (pair id.now date.now group.now) n) original.now resubmission.now original.entry.ref_ptr resubmission.entry.ref_ptr result.now result.ref_ptr }
 {
     match in_force(edition, original, resubmission, id, date, group, n) {
-        InForce::Refused {
-            refusal: _,
-            file: _,
-        } => &original[0..0],
-        InForce::NoSuch {
-            refusal: _,
-            number: _,
-        } => &original[0..0],
-        InForce::Found {
-            file,
-            number: _,
-            start,
-            end,
-        } => part_of(file, original, resubmission, start, end),
+        Ok(found) => part_of(found, original, resubmission),
+        Err(_) => &original[0..0],
     }
 }

@@ -6,7 +6,8 @@ use mathlib.Core.List.{List, [], ◌∷◌, ◌++◌, map}
 use lib.Dec.{eqb}
 use Rattle.text.specs.Characters.{bytes}
 use Rattle.rfc4180.specs.Rfc.{textdata}
-use Rattle.rfc4180.specs.Walk.{at_line, next_of, given_of, stop_at, sheet_from, lines_from}
+use Rattle.rfc4180.specs.Walk.{next_of, given_of, stop_at, sheet_from, lines_from}
+use Rattle.rfc4180.specs.declared.State.TheVariants.{AtLine}
 
 -- a text is read, with the lines and the bytes of its sheet, or it stops at a line
 pub data Outcome : Type 0 where
@@ -17,7 +18,7 @@ pub data Case : Type 0 where
   case : List ℕ → Outcome → Case
 
 pub given : Case → Outcome
-given (case s o) = cond (eqb (stop_at at_line 0 s) 0) (reads (lines_from at_line s) (sheet_from at_line s)) (stops (stop_at at_line 0 s))
+given (case s o) = cond (eqb (stop_at AtLine 0 s) 0) (reads (lines_from AtLine s) (sheet_from AtLine s)) (stops (stop_at AtLine 0 s))
 
 pub expected : Case → Outcome
 expected (case s o) = o

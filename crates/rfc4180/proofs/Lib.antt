@@ -1,3 +1,4 @@
+pub mod States
 pub mod Steps
 pub mod Ways
 pub mod Skimming

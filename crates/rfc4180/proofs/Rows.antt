@@ -13,7 +13,8 @@ use Rattle.sheet.proofs.Footers.{fields_part, fields_whole}
 use Rattle.sheet.proofs.Holding.{none_append, none_passing}
 use Rattle.rfc4180.specs.Rfc.{comma, quote, return, feed, textdata, Inside, Field, Line, Text, lines_of}
 use Rattle.rfc4180.specs.Rfc as rfc
-use Rattle.rfc4180.specs.Walk.{at_line, sheet_from}
+use Rattle.rfc4180.specs.Walk.{sheet_from}
+use Rattle.rfc4180.specs.declared.State.TheVariants.{AtLine}
 use Rattle.rfc4180.proofs.Ways.{text_other, row_some, text_sheet}
 
 or_assoc : (x y z : Bool) → (x || (y || z)) ≡ ((x || y) || z)
@@ -132,7 +133,7 @@ text_fields rfc.Text.none = refl
 text_fields (rfc.Text.last {s} {row} h l) = ap (λ (r : List (List ℕ)). r ∷ []) (line_back l)
 text_fields (rfc.Text.more l x) = ap₂ ◌∷◌ (line_back l) (text_fields x)
 
-pub rows_back : {s : List ℕ} {rows : List (List (List ℕ))} → Text s rows → map (fields tab) (records (sheet_from at_line s)) ≡ rows
+pub rows_back : {s : List ℕ} {rows : List (List (List ℕ))} → Text s rows → map (fields tab) (records (sheet_from AtLine s)) ≡ rows
 rows_back {s} {rows} x =
     ap (λ (y : List ℕ). map (fields tab) (records y)) (text_sheet x)
     ∙ ap (map (fields tab)) (records_joined (lines_of rows) (text_flat x)) ∙ text_fields x

@@ -8,7 +8,7 @@ use native.Mathlib.Omega.{arith}
 use lib.Dec.{eqb, leb}
 use lib.ListN.{length, get_or, take, drop, length-append, take-append-drop, drop_of_length-le, length-drop}
 use lib.Seq.{drop-cons, drop-drop, length-take-le}
-use borrow.Author.Tests.{eqb-true, eqb-false, eq-eqb, ne_eqb, leb-true, leb-false}
+use borrow.Author.Tests.{eqb-true, eqb-false, leb-true, leb-false}
 use Rattle.text.specs.Characters.{all, from_to}
 use Rattle.record.specs.Records.{turned}
 use Rattle.record.proofs.Cutting.{neither}
@@ -16,7 +16,9 @@ use Rattle.record.proofs.Turned.{turned_length}
 use Rattle.number.proofs.Digits.{and_left, and_right}
 use Rattle.sheet.specs.Sheets.{tab}
 use Rattle.rfc4180.specs.Rfc.{comma, quote, textdata}
-use Rattle.rfc4180.specs.Walk.{at_field, plain, in_quotes, after_quote, after_return, stopped, next_of, given_of, stop_at, sheet_from, lines_from}
+use Rattle.rfc4180.specs.Walk.{in_quotes, next_of, given_of, stop_at, sheet_from, lines_from}
+use Rattle.rfc4180.specs.declared.State.{State}
+use Rattle.rfc4180.specs.declared.State.TheVariants.{AtLine, AtField, Plain, InQuotes, AfterQuote, AfterReturn, Stopped}
 use Rattle.rfc4180.specs.Skim.{bare, bare_run, skims, skimmed, led_to, stretch_given, Stretch}
 use Rattle.rfc4180.proofs.Ways.{Way, stay, step, way_stop, way_sheet, way_lines, text_given, text_quoted, not_comma, not_quote}
 
@@ -88,39 +90,38 @@ module _ (s : List ℕ) (i : ℕ) where
   unfolding bare_run
   bare_end h = rw (drop_of_length-le s {i = i} h)
 
--- where a bare byte leads, and what it gives
-record Skims (st : ℕ) : Type 0 where
-  no_quote : eqb st after_quote ≡ false
-  no_return : eqb st after_return ≡ false
-  no_stop : eqb st stopped ≡ false
+-- a state outside quotes from which a stretch is passed over; where a bare byte leads, and what it gives
+data Outside : State → Type 0 where
+  in_line : Outside AtLine
+  in_field : Outside AtField
+  in_plain : Outside Plain
 
-skims_go : (a b c : Bool) → cond a false (cond b false (cond c false true)) ≡ true → (a ≡ false) × (b ≡ false) × (c ≡ false)
-skims_go true b c e = absurd (false≢true e)
-skims_go false true c e = absurd (false≢true e)
-skims_go false false true e = absurd (false≢true e)
-skims_go false false false e = (refl, refl, refl)
+outside_so : (st : State) → skims st ≡ true → in_quotes st ≡ false → Outside st
+outside_so AtLine k o = in_line
+outside_so AtField k o = in_field
+outside_so Plain k o = in_plain
+outside_so InQuotes k o = absurd (false≢true (sym o))
+outside_so AfterQuote k o = absurd (false≢true k)
+outside_so AfterReturn k o = absurd (false≢true k)
+outside_so Stopped k o = absurd (false≢true k)
 
-skims_so : (st : ℕ) → skims st ≡ true → Skims st
-skims_so st e =
-    let g = skims_go (eqb st after_quote) (eqb st after_return) (eqb st stopped) e in
-    record { no_quote = g.0; no_return = g.1; no_stop = g.2 }
+text_next : {st : State} → Outside st → (b : ℕ) → textdata b ≡ true → next_of st b ≡ Plain
+unfolding next_of
+text_next in_line b t = rw (not_quote b t, t)
+text_next in_field b t = rw (not_quote b t, t)
+text_next in_plain b t = rw t
 
-either_way : (x : ℕ) (t : Bool) → cond t x x ≡ x
-either_way x true = refl
-either_way x false = refl
+comma_next : {st : State} → Outside st → next_of st comma ≡ AtField
+unfolding next_of textdata
+comma_next in_line = refl
+comma_next in_field = refl
+comma_next in_plain = refl
 
-module _ (st : ℕ) (k : Skims st) (out : eqb st in_quotes ≡ false) where
-  text_next : (b : ℕ) → textdata b ≡ true → next_of st b ≡ plain
-  unfolding next_of
-  text_next b t = rw (out, k.no_quote, k.no_return, k.no_stop, not_quote b t, t) (either_way plain (eqb st plain))
-
-  comma_next : next_of st comma ≡ at_field
-  unfolding next_of textdata
-  comma_next = rw (out, k.no_quote, k.no_return, k.no_stop) (either_way at_field (eqb st plain))
-
-  comma_given : given_of st comma ≡ tab ∷ []
-  unfolding given_of
-  comma_given = rw out
+comma_given : {st : State} → Outside st → given_of st comma ≡ tab ∷ []
+unfolding given_of
+comma_given in_line = refl
+comma_given in_field = refl
+comma_given in_plain = refl
 
 -- a stretch outside quotes: its commas are tabs
 turned_text : (b : ℕ) (s : List ℕ) → textdata b ≡ true → turned comma tab (b ∷ s) ≡ b ∷ turned comma tab s
@@ -131,121 +132,118 @@ turned_comma : (s : List ℕ) → turned comma tab (comma ∷ s) ≡ tab ∷ tur
 unfolding turned
 turned_comma s = refl
 
-plain_skims : Skims plain
-plain_skims = record { no_quote = refl; no_return = refl; no_stop = refl }
+open_step : (st : State) (b : ℕ) (u : List ℕ) → Outside st → Bare b → Way Plain u (led_to Plain u) (turned comma tab u)
+    → Way AtField u (led_to AtField u) (turned comma tab u) → Way st (b ∷ u) (led_to (next_of st b) u) (turned comma tab (b ∷ u))
+open_step st b u o (a_text t) x y =
+    rw (text_next o b t, turned_text b u t) (step (text_next o b t) refl refl (text_given st b t) x)
+open_step st b u o (a_comma q) x y =
+    rw (q, comma_next o, turned_comma u) (step (comma_next o) refl refl (comma_given o) y)
 
-field_skims : Skims at_field
-field_skims = record { no_quote = refl; no_return = refl; no_stop = refl }
-
-open_step : (st b : ℕ) (u : List ℕ) → Skims st → eqb st in_quotes ≡ false → Bare b → Way plain u (led_to plain u) (turned comma tab u)
-    → Way at_field u (led_to at_field u) (turned comma tab u) → Way st (b ∷ u) (led_to (next_of st b) u) (turned comma tab (b ∷ u))
-open_step st b u k o (a_text t) x y =
-    rw (text_next st k o b t, turned_text b u t) (step (text_next st k o b t) refl refl (text_given st b t) x)
-open_step st b u k o (a_comma q) x y =
-    rw (q, comma_next st k o, turned_comma u) (step (comma_next st k o) refl refl (comma_given st k o) y)
-
-open_way : (st : ℕ) (u : List ℕ) → Skims st → eqb st in_quotes ≡ false → all bare u ≡ true → Way st u (led_to st u) (turned comma tab u)
+open_way : (st : State) (u : List ℕ) → Outside st → all bare u ≡ true → Way st u (led_to st u) (turned comma tab u)
 unfolding led_to turned
-open_way st [] k o e = stay
-open_way st (b ∷ u) k o e =
+open_way st [] o e = stay
+open_way st (b ∷ u) o e =
     let rest = and_right (bare b) (all bare u) e in
-    open_step st b u k o (bare_kind b (and_left (bare b) (all bare u) e)) (open_way plain u plain_skims refl rest) (open_way at_field u field_skims refl rest)
+    open_step st b u o (bare_kind b (and_left (bare b) (all bare u) e)) (open_way Plain u in_plain rest) (open_way AtField u in_field rest)
 
 -- it leads where its last byte leads
-open_last : (st b : ℕ) → Skims st → eqb st in_quotes ≡ false → Bare b → next_of st b ≡ next_of plain b
-open_last st b k o (a_text t) = text_next st k o b t ∙ sym (text_next plain plain_skims refl b t)
-open_last st b k o (a_comma q) = rw q (comma_next st k o ∙ sym (comma_next plain plain_skims refl))
+open_last : (st : State) (b : ℕ) → Outside st → Bare b → next_of st b ≡ next_of Plain b
+open_last st b o (a_text t) = text_next o b t ∙ sym (text_next in_plain b t)
+open_last st b o (a_comma q) = rw q (comma_next o ∙ sym (comma_next in_plain))
 
-last_go : (st b : ℕ) (u : List ℕ) (x : ℕ) → Skims st → eqb st in_quotes ≡ false → Bare b → led_to plain u ≡ x → led_to at_field u ≡ x → led_to (next_of st b) u ≡ x
-last_go st b u x k o (a_text t) p q = rw (text_next st k o b t) p
-last_go st b u x k o (a_comma e) p q = rw (e, comma_next st k o) q
+last_go : (st : State) (b : ℕ) (u : List ℕ) (x : State) → Outside st → Bare b → led_to Plain u ≡ x → led_to AtField u ≡ x → led_to (next_of st b) u ≡ x
+last_go st b u x o (a_text t) p q = rw (text_next o b t) p
+last_go st b u x o (a_comma e) p q = rw (e, comma_next o) q
 
-led_open : (st n : ℕ) (u : List ℕ) → Skims st → eqb st in_quotes ≡ false → all bare u ≡ true → length u ≡ suc n → led_to st u ≡ next_of plain (get_or u n 0)
+led_open : (st : State) (n : ℕ) (u : List ℕ) → Outside st → all bare u ≡ true → length u ≡ suc n → led_to st u ≡ next_of Plain (get_or u n 0)
 unfolding led_to
-led_open st n [] k o e h = absurd (omega arith)
-led_open st zero (b ∷ []) k o e h = open_last st b k o (bare_kind b (and_left (bare b) true e))
-led_open st (suc n) (b ∷ []) k o e h = absurd (omega arith)
-led_open st zero (b ∷ c ∷ u) k o e h = absurd (omega arith)
-led_open st (suc n) (b ∷ c ∷ u) k o e h =
+led_open st n [] o e h = absurd (omega arith)
+led_open st zero (b ∷ []) o e h = open_last st b o (bare_kind b (and_left (bare b) true e))
+led_open st (suc n) (b ∷ []) o e h = absurd (omega arith)
+led_open st zero (b ∷ c ∷ u) o e h = absurd (omega arith)
+led_open st (suc n) (b ∷ c ∷ u) o e h =
     let rest = and_right (bare b) (all bare (c ∷ u)) e in
     let more : length (c ∷ u) ≡ suc n = omega arith in
-    last_go st b (c ∷ u) (next_of plain (get_or (c ∷ u) n 0)) k o (bare_kind b (and_left (bare b) (all bare (c ∷ u)) e))
-    (led_open plain n (c ∷ u) plain_skims refl rest more) (led_open at_field n (c ∷ u) field_skims refl rest more)
+    last_go st b (c ∷ u) (next_of Plain (get_or (c ∷ u) n 0)) o (bare_kind b (and_left (bare b) (all bare (c ∷ u)) e))
+    (led_open Plain n (c ∷ u) in_plain rest more) (led_open AtField n (c ∷ u) in_field rest more)
+
+-- the state in quotes
+pub quotes_so : (st : State) → in_quotes st ≡ true → st ≡ InQuotes
+quotes_so AtLine e = absurd (false≢true e)
+quotes_so AtField e = absurd (false≢true e)
+quotes_so Plain e = absurd (false≢true e)
+quotes_so InQuotes e = refl
+quotes_so AfterQuote e = absurd (false≢true e)
+quotes_so AfterReturn e = absurd (false≢true e)
+quotes_so Stopped e = absurd (false≢true e)
 
 -- a stretch in quotes: it gives itself, and leads nowhere else
-quoted_next : (b : ℕ) → Bare b → next_of in_quotes b ≡ in_quotes
+quoted_next : (b : ℕ) → Bare b → next_of InQuotes b ≡ InQuotes
 unfolding next_of
 quoted_next b (a_text t) = text_quoted b t
 quoted_next b (a_comma q) = rw q
 
-quoted_given : (b : ℕ) → Bare b → given_of in_quotes b ≡ b ∷ []
+quoted_given : (b : ℕ) → Bare b → given_of InQuotes b ≡ b ∷ []
 unfolding given_of
-quoted_given b (a_text t) = text_given in_quotes b t
+quoted_given b (a_text t) = text_given InQuotes b t
 quoted_given b (a_comma q) = rw q
 
-quoted_way : (u : List ℕ) → all bare u ≡ true → Way in_quotes u in_quotes u
+quoted_way : (u : List ℕ) → all bare u ≡ true → Way InQuotes u InQuotes u
 quoted_way [] e = stay
 quoted_way (b ∷ u) e =
     let k = bare_kind b (and_left (bare b) (all bare u) e) in
     step (quoted_next b k) refl refl (quoted_given b k) (quoted_way u (and_right (bare b) (all bare u) e))
 
-led_quoted : (u : List ℕ) → all bare u ≡ true → led_to in_quotes u ≡ in_quotes
+led_quoted : (u : List ℕ) → all bare u ≡ true → led_to InQuotes u ≡ InQuotes
 unfolding led_to
 led_quoted [] e = refl
 led_quoted (b ∷ u) e =
-    ap (λ (m : ℕ). led_to m u) (quoted_next b (bare_kind b (and_left (bare b) (all bare u) e))) ∙ led_quoted u (and_right (bare b) (all bare u) e)
+    ap (λ (m : State). led_to m u) (quoted_next b (bare_kind b (and_left (bare b) (all bare u) e))) ∙ led_quoted u (and_right (bare b) (all bare u) e)
 
 -- any stretch
-stretch_go : (st : ℕ) (u : List ℕ) (t : Bool) → eqb st in_quotes ≡ t → Stretch st u → Way st u (led_to st u) (cond t u (turned comma tab u))
+stretch_go : (st : State) (u : List ℕ) (t : Bool) → in_quotes st ≡ t → Stretch st u → Way st u (led_to st u) (cond t u (turned comma tab u))
 stretch_go st u true e r =
-    let w : Way in_quotes u (led_to in_quotes u) u = rw (led_quoted u r.plainly) (quoted_way u r.plainly) in
-    rw (eqb-true st in_quotes e) w
-stretch_go st u false e r = open_way st u (skims_so st r.skim) e r.plainly
+    let w : Way InQuotes u (led_to InQuotes u) u = rw (led_quoted u r.plainly) (quoted_way u r.plainly) in
+    rw (quotes_so st e) w
+stretch_go st u false e r = open_way st u (outside_so st r.skim e) r.plainly
 
-stretch_way : {st : ℕ} {u : List ℕ} → Stretch st u → Way st u (led_to st u) (stretch_given st u)
-stretch_way {st} {u} r = stretch_go st u (eqb st in_quotes) refl r
+stretch_way : {st : State} {u : List ℕ} → Stretch st u → Way st u (led_to st u) (stretch_given st u)
+stretch_way {st} {u} r = stretch_go st u (in_quotes st) refl r
 
 -- where it leads
-none_go : (st : ℕ) (u : List ℕ) → length u ≡ 0 → st ≡ led_to st u
+none_go : (st : State) (u : List ℕ) → length u ≡ 0 → st ≡ led_to st u
 unfolding led_to
 none_go st [] e = refl
 none_go st (b ∷ u) e = absurd (omega arith)
 
-module _ {st : ℕ} {u : List ℕ} (r : Stretch st u) where
+module _ {st : State} {u : List ℕ} (r : Stretch st u) where
   pub behind_none : length u ≡ 0 → st ≡ led_to st u
   behind_none h = none_go st u h
 
-  pub behind_quoted : st ≡ in_quotes → st ≡ led_to st u
-  behind_quoted e = e ∙ sym (led_quoted u r.plainly) ∙ ap (λ (m : ℕ). led_to m u) (sym e)
+  pub behind_quoted : in_quotes st ≡ true → st ≡ led_to st u
+  behind_quoted t =
+      let e = quotes_so st t in
+      e ∙ sym (led_quoted u r.plainly) ∙ ap (λ (m : State). led_to m u) (sym e)
 
-  pub behind_last : (length u ≡ 0 → ⊥) → (st ≡ in_quotes → ⊥) → next_of plain (get_or u (length u - 1) 0) ≡ led_to st u
-  behind_last some out = sym (led_open st (length u - 1) u (skims_so st r.skim) (ne_eqb st in_quotes out) r.plainly (omega arith))
+  pub behind_last : (length u ≡ 0 → ⊥) → in_quotes st ≡ false → next_of Plain (get_or u (length u - 1) 0) ≡ led_to st u
+  behind_last some out = sym (led_open st (length u - 1) u (outside_so st r.skim out) r.plainly (omega arith))
 
-pub given_quoted : (st : ℕ) (u : List ℕ) → st ≡ in_quotes → stretch_given st u ≡ u
-given_quoted st u e = rw (eq-eqb st in_quotes e)
-
-pub given_open : (st : ℕ) (u : List ℕ) → (st ≡ in_quotes → ⊥) → stretch_given st u ≡ turned comma tab u
-given_open st u e = rw (ne_eqb st in_quotes e)
+pub given_quoted : (st : State) (u : List ℕ) → in_quotes st ≡ true → stretch_given st u ≡ u
+given_quoted st u e = rw e
 
 given_go : (u : List ℕ) (t : Bool) → length (cond t u (turned comma tab u)) ≡ length u
 given_go u true = refl
 given_go u false = turned_length comma tab u
 
-pub given_size : (st : ℕ) (u : List ℕ) → length (stretch_given st u) ≡ length u
-given_size st u = given_go u (eqb st in_quotes)
-
-pub skim_none : (st : ℕ) (s : List ℕ) → skims st ≡ false → skimmed st s ≡ 0
-skim_none st s e = rw e
-
-pub skim_all : (st : ℕ) (s : List ℕ) → skims st ≡ true → skimmed st s ≡ bare_run s
-skim_all st s e = rw e
+pub given_size : (st : State) (u : List ℕ) → length (stretch_given st u) ≡ length u
+given_size st u = given_go u (in_quotes st)
 
 -- the stretch that stands at i
 skim_go : (n : ℕ) (t : Bool) → 0 < cond t n 0 → (t ≡ true) × (cond t n 0 ≡ n)
 skim_go n true h = (refl, refl)
 skim_go n false h = absurd (omega arith)
 
-module _ (s : List ℕ) (i st e : ℕ) (is : e ≡ i + skimmed st (drop i s)) (more : i < e) (here : i ≤ length s) where
+module _ (s : List ℕ) (i : ℕ) (st : State) (e : ℕ) (is : e ≡ i + skimmed st (drop i s)) (more : i < e) (here : i ≤ length s) where
   abbrev stretch : List ℕ
   stretch = take (e - i) (drop i s)
 

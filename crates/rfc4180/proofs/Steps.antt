@@ -5,15 +5,14 @@ use mathlib.Core.Bool.{Bool, true, false, cond}
 use mathlib.Core.List.{List, [], ◌∷◌, ◌++◌}
 use native.Mathlib.Numerals.{add-one}
 use native.Mathlib.Omega.{arith}
-use lib.Dec.{eqb}
 use lib.ListN.{length, get_or, drop, length-append, drop_of_length-le}
 use lib.Seq.{drop-cons}
-use borrow.Author.Tests.{eq-eqb, ne_eqb}
 use Rattle.rfc4180.specs.Rfc.{feed}
 use Rattle.rfc4180.specs.Walk.{at_line, stopped, next_of, keeps, turned_of, given_of, ended_of, may_end, stop_at, sheet_from, lines_from}
+use Rattle.rfc4180.specs.declared.State.{State}
 
 -- what one byte gives
-module _ (st b : ℕ) where
+module _ (st : State) (b : ℕ) where
   pub given_one : keeps st b ≡ true → given_of st b ≡ turned_of st b ∷ []
   unfolding given_of
   given_one e = rw e
@@ -34,18 +33,18 @@ ended_go : (t : Bool) → cond t 1 0 ≤ 1
 ended_go true = omega arith
 ended_go false = omega arith
 
-pub ended_le : (st : ℕ) → ended_of st ≤ 1
-ended_le st = ended_go (eqb st at_line)
+pub ended_le : (st : State) → ended_of st ≤ 1
+ended_le st = ended_go (at_line st)
 
 -- at the byte at i of a text
-module _ (s : List ℕ) (i st m : ℕ) (h : i < length s) (e : m ≡ next_of st (get_or s i 0)) where
-  pub stop_here : (n : ℕ) → m ≡ stopped → stop_at st n (drop i s) ≡ n + 1
+module _ (s : List ℕ) (i : ℕ) (st m : State) (h : i < length s) (e : m ≡ next_of st (get_or s i 0)) where
+  pub stop_here : (n : ℕ) → stopped m ≡ true → stop_at st n (drop i s) ≡ n + 1
   unfolding stop_at
-  stop_here n q = rw (drop-cons s i 0 h, ← e, eq-eqb m stopped q)
+  stop_here n q = rw (drop-cons s i 0 h, ← e, q)
 
-  pub stop_next : (n : ℕ) → (m ≡ stopped → ⊥) → stop_at st n (drop i s) ≡ stop_at m (n + ended_of m) (drop (i + 1) s)
+  pub stop_next : (n : ℕ) → stopped m ≡ false → stop_at st n (drop i s) ≡ stop_at m (n + ended_of m) (drop (i + 1) s)
   unfolding stop_at
-  stop_next n q = rw (add-one i, drop-cons s i 0 h, ← e, ne_eqb m stopped q)
+  stop_next n q = rw (add-one i, drop-cons s i 0 h, ← e, q)
 
   pub sheet_next : sheet_from st (drop i s) ≡ given_of st (get_or s i 0) ++ sheet_from m (drop (i + 1) s)
   unfolding sheet_from
@@ -59,7 +58,7 @@ module _ (s : List ℕ) (i st m : ℕ) (h : i < length s) (e : m ≡ next_of st 
   lines_next = rw (add-one i, drop-cons s i 0 h, ← e)
 
 -- at the end
-module _ (s : List ℕ) (i st : ℕ) (h : length s ≤ i) where
+module _ (s : List ℕ) (i : ℕ) (st : State) (h : length s ≤ i) where
   pub stop_open : (n : ℕ) → may_end st ≡ false → stop_at st n (drop i s) ≡ n + 1
   unfolding stop_at
   stop_open n e = rw (drop_of_length-le s {i = i} h, e)
@@ -68,18 +67,18 @@ module _ (s : List ℕ) (i st : ℕ) (h : length s ≤ i) where
   unfolding stop_at
   stop_none n e = rw (drop_of_length-le s {i = i} h, e)
 
-  pub sheet_ended : st ≡ at_line → sheet_from st (drop i s) ≡ []
+  pub sheet_ended : at_line st ≡ true → sheet_from st (drop i s) ≡ []
   unfolding sheet_from
-  sheet_ended e = rw (drop_of_length-le s {i = i} h, eq-eqb st at_line e)
+  sheet_ended e = rw (drop_of_length-le s {i = i} h, e)
 
-  pub sheet_open : (st ≡ at_line → ⊥) → sheet_from st (drop i s) ≡ feed ∷ []
+  pub sheet_open : at_line st ≡ false → sheet_from st (drop i s) ≡ feed ∷ []
   unfolding sheet_from
-  sheet_open e = rw (drop_of_length-le s {i = i} h, ne_eqb st at_line e)
+  sheet_open e = rw (drop_of_length-le s {i = i} h, e)
 
-  pub lines_ended_lem : st ≡ at_line → lines_from st (drop i s) ≡ 0
+  pub lines_ended_lem : at_line st ≡ true → lines_from st (drop i s) ≡ 0
   unfolding lines_from
-  lines_ended_lem e = rw (drop_of_length-le s {i = i} h, eq-eqb st at_line e)
+  lines_ended_lem e = rw (drop_of_length-le s {i = i} h, e)
 
-  pub lines_open : (st ≡ at_line → ⊥) → lines_from st (drop i s) ≡ 1
+  pub lines_open : at_line st ≡ false → lines_from st (drop i s) ≡ 1
   unfolding lines_from
-  lines_open e = rw (drop_of_length-le s {i = i} h, ne_eqb st at_line e)
+  lines_open e = rw (drop_of_length-le s {i = i} h, e)

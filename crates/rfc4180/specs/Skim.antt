@@ -4,7 +4,9 @@ use Rattle.text.specs.Characters.{all, from_to}
 use Rattle.record.specs.Records.{turned}
 use Rattle.sheet.specs.Sheets.{tab}
 use Rattle.rfc4180.specs.Rfc.{comma, quote}
-use Rattle.rfc4180.specs.Walk.{in_quotes, after_quote, after_return, stopped, next_of}
+use Rattle.rfc4180.specs.Walk.{in_quotes, next_of}
+use Rattle.rfc4180.specs.declared.State.{State}
+use Rattle.rfc4180.specs.declared.State.TheVariants.{AfterQuote, AfterReturn, Stopped}
 
 -- data or a comma: any printable byte but a quotation mark
 unfoldable pub bare : ℕ → Bool
@@ -16,23 +18,26 @@ bare_run [] = 0
 bare_run (b ∷ s) = cond (bare b) (suc (bare_run s)) 0
 
 -- the walk may pass over them: it has not stopped, and neither a quotation mark in quotes nor a CR is just behind
-abbrev pub skims : ℕ → Bool
-skims st = cond (eqb st after_quote) false (cond (eqb st after_return) false (cond (eqb st stopped) false true))
+abbrev pub skims : State → Bool
+skims AfterQuote = false
+skims AfterReturn = false
+skims Stopped = false
+skims st = true
 
 -- how many bytes it passes over
-abbrev pub skimmed : ℕ → List ℕ → ℕ
+abbrev pub skimmed : State → List ℕ → ℕ
 skimmed st s = cond (skims st) (bare_run s) 0
 
 -- where some bytes lead
-unfoldable pub led_to : ℕ → List ℕ → ℕ
+unfoldable pub led_to : State → List ℕ → State
 led_to st [] = st
 led_to st (b ∷ s) = led_to (next_of st b) s
 
 -- what a stretch of them gives: in quotes itself, else its commas are tabs
-abbrev pub stretch_given : ℕ → List ℕ → List ℕ
-stretch_given st u = cond (eqb st in_quotes) u (turned comma tab u)
+abbrev pub stretch_given : State → List ℕ → List ℕ
+stretch_given st u = cond (in_quotes st) u (turned comma tab u)
 
 -- a stretch of such bytes, and a state from which the walk may pass over them
-pub record Stretch (st : ℕ) (u : List ℕ) : Type 0 where
+pub record Stretch (st : State) (u : List ℕ) : Type 0 where
   pub skim : skims st ≡ true
   pub plainly : all bare u ≡ true

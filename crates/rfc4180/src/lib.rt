@@ -2,9 +2,9 @@
 #![tactic(auto)]
 
 ghost use Rattle.std.specs.Prelude.{◌≡◌, List, ℕ, ◌+◌, ◌≤◌, length, drop};
-ghost use Rattle.text.specs.Characters.{from_to};
 ghost use Rattle.sheet.specs.Code.{put};
 ghost use Rattle.rfc4180.specs.Rfc.{textdata as textdata_of};
+ghost use Rattle.rfc4180.specs.declared.State.TheVariants.{AtLine};
 ghost use Rattle.rfc4180.specs.Walk.{parting as parting_of, going as going_of, opening as opening_of, inside as inside_of, behind as behind_of, next_of, keeps as keeps_of, turned_of, given_of, ended_of, may_end, sheet_from, Scanned};
 ghost use Rattle.rfc4180.specs.Skim.{bare, bare_run, skims, skimmed, led_to, stretch_given, Stretch};
 
@@ -19,170 +19,142 @@ pub const QUOTE: u8 = 0x22;
 // The first of the two bytes that end a line.
 pub const RETURN: u8 = 0x0D;
 
-// The states of the walk, as `rfc4180:Walk` has them.
-pub const AT_LINE: u8 = 0;
-
-const AT_FIELD: u8 = 1;
-
-pub const PLAIN: u8 = 2;
-
-pub const IN_QUOTES: u8 = 3;
-
-const AFTER_QUOTE: u8 = 4;
-
-pub const AFTER_RETURN: u8 = 5;
-
-pub const STOPPED: u8 = 6;
-
-// A text that goes through, with the lines and bytes of its sheet; or the line where it stops.
-#[derive(Clone, Copy)]
-pub enum Looked {
-    Through { lines: usize, bytes: usize },
-    Stopped { line: usize },
+// Where the walk over a text stands: at the start of a line, at the start of a field after a comma, in a field without quotes, in
+// quotes, after a quotation mark in quotes, after a CR; or it has stopped.
+#[derive(Clone, Copy, PartialEq, Eq)]
+pub enum State {
+    AtLine,
+    AtField,
+    Plain,
+    InQuotes,
+    AfterQuote,
+    AfterReturn,
+    Stopped,
 }
 
-// The byte b is one of those from lo to hi.
-fn between(lo: u8, hi: u8, b: u8) -> bool
-    ensures { result ≡ from_to lo hi b }
-{
-    if b < lo {
-        return false;
-    }
-    b <= hi
+// A text that goes through: the lines and bytes of its sheet.
+#[derive(Clone, Copy, PartialEq, Eq)]
+pub struct Through {
+    pub lines: usize,
+    pub bytes: usize,
 }
 
-// The RFC's TEXTDATA.
+// The line where a text stops.
+#[derive(Clone, Copy, PartialEq, Eq)]
+pub struct Halt {
+    pub line: usize,
+}
+
+// The RFC's TEXTDATA. As one pattern of three ranges it becomes branches, and import took 9 in 100 longer.
+#[tactic(auto, unfolding(crate::specs::Rfc::textdata))]
 fn textdata(b: u8) -> bool
     ensures { result ≡ textdata_of b }
 {
-    if between(0x20, 0x21, b) {
-        return true;
-    }
-    if between(0x23, 0x2B, b) {
-        return true;
-    }
-    between(0x2D, 0x7E, b)
+    matches!(b, 0x20..=0x21) || matches!(b, 0x23..=0x2B) || matches!(b, 0x2D..=0x7E)
 }
 
 // After a byte that ends a field.
-fn parting(b: u8) -> u8
+fn parting(b: u8) -> State
     ensures { result ≡ parting_of b }
 {
-    if b == COMMA {
-        return AT_FIELD;
+    match b {
+        COMMA => State::AtField,
+        RETURN => State::AfterReturn,
+        _ => State::Stopped,
     }
-    if b == RETURN {
-        return AFTER_RETURN;
-    }
-    STOPPED
 }
 
 // After a byte in a field without quotes.
-fn going(b: u8) -> u8
+fn going(b: u8) -> State
     ensures { result ≡ going_of b }
 {
     if textdata(b) {
-        return PLAIN;
+        State::Plain
+    } else {
+        parting(b)
     }
-    parting(b)
 }
 
 // After the first byte of a field.
-fn opening(b: u8) -> u8
+fn opening(b: u8) -> State
     ensures { result ≡ opening_of b }
 {
     if b == QUOTE {
-        return IN_QUOTES;
+        State::InQuotes
+    } else {
+        going(b)
     }
-    going(b)
 }
 
 // After a byte in quotes.
-fn inside(b: u8) -> u8
+fn inside(b: u8) -> State
     ensures { result ≡ inside_of b }
 {
-    if b == QUOTE {
-        return AFTER_QUOTE;
+    match b {
+        QUOTE => State::AfterQuote,
+        COMMA => State::InQuotes,
+        _ if textdata(b) => State::InQuotes,
+        _ => State::Stopped,
     }
-    if b == COMMA {
-        return IN_QUOTES;
-    }
-    if textdata(b) {
-        return IN_QUOTES;
-    }
-    STOPPED
 }
 
 // After a byte behind a quotation mark in quotes.
-fn behind(b: u8) -> u8
+fn behind(b: u8) -> State
     ensures { result ≡ behind_of b }
 {
     if b == QUOTE {
-        return IN_QUOTES;
+        State::InQuotes
+    } else {
+        parting(b)
     }
-    parting(b)
 }
 
 // Where a byte leads.
-pub fn next(st: u8, b: u8) -> u8
+#[tactic(auto, unfolding(crate::specs::Walk::next_of))]
+pub fn next(st: State, b: u8) -> State
     ensures { result ≡ next_of st b }
 {
-    if st == IN_QUOTES {
-        return inside(b);
+    match st {
+        State::AtLine | State::AtField => opening(b),
+        State::Plain => going(b),
+        State::InQuotes => inside(b),
+        State::AfterQuote => behind(b),
+        State::AfterReturn if b == FEED => State::AtLine,
+        State::AfterReturn | State::Stopped => State::Stopped,
     }
-    if st == PLAIN {
-        return going(b);
-    }
-    if st == AFTER_QUOTE {
-        return behind(b);
-    }
-    if st == AFTER_RETURN {
-        if b == FEED {
-            return AT_LINE;
-        }
-        return STOPPED;
-    }
-    if st == STOPPED {
-        return STOPPED;
-    }
-    opening(b)
 }
 
 // The byte stands in the sheet.
-fn keeps(st: u8, b: u8) -> bool
+fn keeps(st: State, b: u8) -> bool
     ensures { result ≡ keeps_of st b }
 {
-    if b == RETURN {
-        return false;
+    match b {
+        RETURN => false,
+        QUOTE => st == State::AfterQuote,
+        _ => true,
     }
-    if b == QUOTE {
-        return st == AFTER_QUOTE;
-    }
-    true
 }
 
 // The byte that stands in the sheet.
-fn turned(st: u8, b: u8) -> u8
+fn turned(st: State, b: u8) -> u8
     ensures { result ≡ turned_of st b }
 {
-    if b == COMMA {
-        if st == IN_QUOTES {
-            return b;
-        }
-        return TAB;
+    if b == COMMA && st != State::InQuotes {
+        TAB
+    } else {
+        b
     }
-    b
 }
 
 // How many bytes a byte gives.
-fn given_size(st: u8, b: u8) -> usize
+fn given_size(st: State, b: u8) -> usize
     ensures { result ≡ length (given_of st b) }
 {
     if keeps(st, b) { 1 } else { 0 }
 }
 
 // What a byte gives, put at `at`; gives the place behind it.
-fn put_given(out: &mut [u8], at: usize, st: u8, b: u8) -> usize
+fn put_given(out: &mut [u8], at: usize, st: State, b: u8) -> usize
     requires { at + length (given_of st b) ≤ length out.old }
     ensures { (out.new ≡ put out.old at (given_of st b)) × (result ≡ at + length (given_of st b)) }
 {
@@ -194,33 +166,28 @@ fn put_given(out: &mut [u8], at: usize, st: u8, b: u8) -> usize
 }
 
 // One where a line has ended.
-fn ended(st: u8) -> usize
+fn ended(st: State) -> usize
     ensures { result ≡ ended_of st }
 {
-    if st == AT_LINE { 1 } else { 0 }
+    match st {
+        State::AtLine => 1,
+        _ => 0,
+    }
 }
 
 // A text may end here.
-fn may_end(st: u8) -> bool
+fn may_end(st: State) -> bool
     ensures { result ≡ may_end st }
 {
-    if st == IN_QUOTES {
-        return false;
-    }
-    if st == AFTER_RETURN {
-        return false;
-    }
-    true
+    !matches!(st, State::InQuotes | State::AfterReturn)
 }
 
-// Data or a comma.
+// Data or a comma: any printable byte but a quotation mark.
+#[tactic(auto, unfolding(crate::specs::Skim::bare))]
 fn is_bare(b: u8) -> bool
     ensures { result ≡ bare b }
 {
-    if b == QUOTE {
-        return false;
-    }
-    between(0x20, 0x7E, b)
+    matches!(b, 0x20..=0x7E) && b != QUOTE
 }
 
 // Where the data and commas from a place on end.
@@ -228,34 +195,23 @@ fn bare_end(text: &[u8], from: usize) -> usize
     requires { from ≤ length text.now }
     ensures { result ≡ from + bare_run (drop from text.now) }
 {
-    let mut i = from;
-    while i < text.len() {
+    for i in from..text.len() {
         if !is_bare(text[i]) {
             return i;
         }
-        i += 1;
     }
-    i
+    text.len()
 }
 
 // The walk may pass over a stretch of data and commas.
-fn may_skim(st: u8) -> bool
+fn may_skim(st: State) -> bool
     ensures { result ≡ skims st }
 {
-    if st == AFTER_QUOTE {
-        return false;
-    }
-    if st == AFTER_RETURN {
-        return false;
-    }
-    if st == STOPPED {
-        return false;
-    }
-    true
+    !matches!(st, State::AfterQuote | State::AfterReturn | State::Stopped)
 }
 
 // Where the stretch ends that the walk may pass over from a place on.
-fn stretch_end(st: u8, text: &[u8], from: usize) -> usize
+fn stretch_end(st: State, text: &[u8], from: usize) -> usize
     requires { from ≤ length text.now }
     ensures { result ≡ from + skimmed st (drop from text.now) }
 {
@@ -266,37 +222,38 @@ fn stretch_end(st: u8, text: &[u8], from: usize) -> usize
 }
 
 // Where a stretch leads: in quotes it stays there, and else its last byte decides.
-fn behind_stretch(st: u8, stretch: &[u8]) -> u8
+fn behind_stretch(st: State, stretch: &[u8]) -> State
     requires { Stretch st stretch.now }
     ensures { result ≡ led_to st stretch.now }
 {
-    if stretch.len() == 0 {
+    let Some(last) = stretch.last() else {
+        return st;
+    };
+    if st == State::InQuotes {
         return st;
     }
-    if st == IN_QUOTES {
-        return st;
-    }
-    next(PLAIN, stretch[stretch.len() - 1])
+    next(State::Plain, *last)
 }
 
 // What a stretch gives, put from `at` on: in quotes itself, and else with its commas turned to tabs.
-fn put_stretch(out: &mut [u8], at: usize, st: u8, stretch: &[u8])
+fn put_stretch(out: &mut [u8], at: usize, st: State, stretch: &[u8])
     requires { at + length stretch.now ≤ length out.old }
     ensures { out.new ≡ put out.old at (stretch_given st stretch.now) }
 {
-    if st == IN_QUOTES {
+    if st == State::InQuotes {
         sheet::put_turned(out, at, stretch, COMMA, COMMA);
-        return;
+    } else {
+        sheet::put_turned(out, at, stretch, COMMA, TAB);
     }
-    sheet::put_turned(out, at, stretch, COMMA, TAB);
 }
 
-// A text looked through, before a byte is written: stretch by stretch, and each byte between two by a step.
-pub fn scan(text: &[u8]) -> Looked
+// A text looked through, before a byte is written: stretch by stretch, over which the place jumps, so that no `for` counts it, and each byte
+// between two by a step.
+pub fn scan(text: &[u8]) -> Result<Through, Halt>
     requires { length text.now ≤ 1048000 }
     ensures { Scanned text.now result }
 {
-    let mut st = AT_LINE;
+    let mut st = State::AtLine;
     let mut lines = 0;
     let mut bytes = 0;
     let mut i = 0;
@@ -308,8 +265,8 @@ pub fn scan(text: &[u8]) -> Looked
             i = end;
         } else {
             let n = next(st, text[i]);
-            if n == STOPPED {
-                return Looked::Stopped { line: lines + 1 };
+            if n == State::Stopped {
+                return Err(Halt { line: lines + 1 });
             }
             bytes += given_size(st, text[i]);
             lines += ended(n);
@@ -318,23 +275,23 @@ pub fn scan(text: &[u8]) -> Looked
         }
     }
     if !may_end(st) {
-        return Looked::Stopped { line: lines + 1 };
+        return Err(Halt { line: lines + 1 });
     }
-    if st == AT_LINE {
-        return Looked::Through { lines, bytes };
+    if st == State::AtLine {
+        return Ok(Through { lines, bytes });
     }
-    Looked::Through {
+    Ok(Through {
         lines: lines + 1,
         bytes: bytes + 1,
-    }
+    })
 }
 
 // The sheet of a text that goes through, put at the front.
 pub fn put_sheet(out: &mut [u8], text: &[u8])
-    requires { length (sheet_from 0 text.now) ≤ length out.old }
-    ensures { out.new ≡ put out.old 0 (sheet_from 0 text.now) }
+    requires { length (sheet_from AtLine text.now) ≤ length out.old }
+    ensures { out.new ≡ put out.old 0 (sheet_from AtLine text.now) }
 {
-    let mut st = AT_LINE;
+    let mut st = State::AtLine;
     let mut e = 0;
     let mut i = 0;
     while i < text.len() {
@@ -350,7 +307,7 @@ pub fn put_sheet(out: &mut [u8], text: &[u8])
             i += 1;
         }
     }
-    if st == AT_LINE {
+    if st == State::AtLine {
         return;
     }
     out[e] = FEED;

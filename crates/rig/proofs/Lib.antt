@@ -1,4 +1,3 @@
 pub mod Rooms
-pub mod Totals
 pub mod Points
 pub mod Listing

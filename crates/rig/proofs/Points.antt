@@ -11,6 +11,7 @@ use Rattle.text.specs.Order.{same_bytes}
 use Rattle.text.specs.Rules.{must}
 use Rattle.record.specs.Records.{records, holds, bar}
 use Rattle.place.specs.Places.{record_at, place_at, refusal_at, whole}
+use Rattle.std.specs.Prelude.{Result, Ok, Err}
 use Rattle.place.specs.declared.Refusal.{Refusal}
 use Rattle.place.proofs.Points.{at_zero}
 use Rattle.pointing.specs.Shown.{Placed}
@@ -18,44 +19,43 @@ use Rattle.flow.specs.Letters.{P0012001}
 use Rattle.flow.specs.Publication.{Flow, layout_for}
 use Rattle.flow.specs.Editions.{Asked, a_flow, no_flow, asked}
 use Rattle.flow.specs.Step.{StepRight}
-use Rattle.flow.specs.declared.StepAnswer.TheVariants as steps
+use Rattle.flow.specs.declared.NoStep.{NoStep}
+use Rattle.flow.specs.declared.NoStep.TheVariants.{Refused}
 use Rattle.flow.proofs.Asking.{asked_whole}
-use Rattle.field.specs.declared.FieldAnswer.{FieldAnswer}
-use Rattle.field.specs.declared.FieldAnswer.TheVariants as fields
+use Rattle.field.specs.declared.Content.{Content}
+use Rattle.field.specs.declared.Content.TheVariants as contents
+use Rattle.field.specs.declared.Wrong.{Wrong}
 use Rattle.judge.specs.File.{judged_by, with_place, judged_for, judged}
 use Rattle.judge.specs.File.{paper as judged_paper}
-use Rattle.judge.specs.declared.Verdict.{Verdict}
-use Rattle.judge.specs.declared.Verdict.TheVariants as verdicts
-use Rattle.judge.specs.declared.Judged.{Judged}
-use Rattle.judge.specs.declared.Judged.TheVariants as files
+use Rattle.judge.specs.declared.Unplaced.{Unplaced}
 use Rattle.value.specs.Value.{is_there, text_at, end_of, as_value, answer_in, field_value, of_accepted, value_at, value_by, value_in, valued}
 use Rattle.value.specs.Value.{paper as value_paper}
 use Rattle.value.specs.declared.Value.{Value}
 use Rattle.value.specs.declared.Value.TheVariants as values
-use Rattle.period.specs.Answer.{yes_or_no, answered, read_up_to, some_has, up_to, has_by, has_for, has_period}
+use Rattle.period.specs.Answer.{answered, read_up_to, some_has, up_to, has_by, has_for, has_period}
 use Rattle.period.specs.Answer.{paper as period_paper}
-use Rattle.period.specs.declared.Answer.{Answer}
-use Rattle.period.specs.declared.Answer.TheVariants as answers
 use Rattle.sheet.specs.Sheets.{tab, made, sheet_of, bar_line}
 use Rattle.sheet.specs.Write.{lines_ended, as_judged, fitted, written_by, written, Wrote, Reply, done, refused}
 use Rattle.sheet.specs.Write.{paper as transfer_paper}
 use Rattle.sheet.specs.Read.{read_to, Read}
-use Rattle.sheet.specs.declared.Transfer.{Transfer}
-use Rattle.sheet.specs.declared.Transfer.TheVariants.{Done, Refused}
+use Rattle.sheet.specs.Write.{Transfer, transferred}
 use Rattle.rfc4180.specs.Rfc.{comma}
 use Rattle.rfc4180.proofs.Starting.{start_place}
 use Rattle.csv_text.specs.Export.{export_of, exported, Exported}
 use Rattle.csv_text.specs.Import.{Imported}
 use Rattle.csv_text.specs.Import as imports
-use Rattle.index.specs.Entries.{indexed_by, answer_for, entries_for}
+use Rattle.index.specs.Entries.{filled, indexed_by, answer_for, entries_for}
 use Rattle.index.specs.declared.Entry.{Entry}
-use Rattle.index.specs.declared.Indexed.{Indexed}
-use Rattle.index.specs.declared.Indexed.TheVariants as indexes
 use Rattle.rig.specs.Placed.{PlacedIn}
 
 -- a refusal of the whole
 whole_placed : (sep : ℕ) (s : List ℕ) (number : ℕ) → Placed sep s (whole number)
 whole_placed sep s number = sym (at_zero sep s 0 0 refl)
+
+-- of a test that comes before an answer
+first_failing : {A : Type 0} (sep : ℕ) (s : List ℕ) (b : Bool) (r : Refusal) (t : Result A Refusal) → Placed sep s r → PlacedIn sep s t → PlacedIn sep s (must b (Err r) t)
+first_failing sep s true r t h g = g
+first_failing sep s false r t h g = h
 
 -- of the words: it is one of the whole, whatever the bytes that were given with them
 abbrev PlacedAsked : ℕ → List ℕ → Asked → Type 0
@@ -71,161 +71,127 @@ module _ (sep : ℕ) (s words : List ℕ) where
   asked_placed = words_placed (asked words) refl
 
 -- of a file or a sheet that is judged
-abbrev PlacedJudged : ℕ → List ℕ → Judged → Type 0
-PlacedJudged sep s (files.Accepted n) = Unit
-PlacedJudged sep s (files.Refused r) = Placed sep s r
+verdict_placed : (sep : ℕ) (s : List ℕ) (v : Result ℕ Unplaced) → PlacedIn sep s (with_place sep s v)
+verdict_placed sep s (Ok n) = tt
+verdict_placed sep s (Err r) = refl
 
-verdict_placed : (sep : ℕ) (s : List ℕ) (v : Verdict) → PlacedJudged sep s (with_place sep s v)
-verdict_placed sep s (verdicts.Accepted n) = tt
-verdict_placed sep s (verdicts.Refused number n k) = refl
-
-file_placed : (f : List ℕ) (a : Asked) → PlacedAsked bar f a → PlacedJudged bar f (judged_for a f)
+file_placed : (f : List ℕ) (a : Asked) → PlacedAsked bar f a → PlacedIn bar f (judged_for a f)
 unfolding judged_for
 file_placed f (a_flow fl) h = verdict_placed bar f (judged_by (layout_for fl) f)
 file_placed f (no_flow r) h = h
 
-for_placed : (words f : List ℕ) → PlacedJudged bar f (judged_for (asked words) f)
+for_placed : (words f : List ℕ) → PlacedIn bar f (judged_for (asked words) f)
 for_placed words f = file_placed f (asked words) (asked_placed bar f words)
 
-same_judged : (f : List ℕ) (r : Refusal) (j : Judged) → judged_paper (files.Refused r) ≡ judged_paper j → PlacedJudged bar f j → Placed bar f r
-same_judged f r (files.Accepted n) e h = let z : ◌≡◌ {A = ℕ} 0 1 = cc in absurd (omega arith)
-same_judged f r (files.Refused q) e h = cc
+same_judged : (f : List ℕ) (r : Refusal) (j : Result ℕ Refusal) → judged_paper (Err r) ≡ judged_paper j → PlacedIn bar f j → Placed bar f r
+same_judged f r (Ok n) e h = let z : ◌≡◌ {A = ℕ} 0 1 = cc in absurd (omega arith)
+same_judged f r (Err q) e h = cc
 
-pub judged_placed : (words f : List ℕ) (r : Refusal) → judged_paper (files.Refused r) ≡ judged (asked words) f → Placed bar f r
+pub judged_placed : (words f : List ℕ) (r : Refusal) → judged_paper (Err r) ≡ judged (asked words) f → Placed bar f r
 unfolding judged
 judged_placed words f r e = same_judged f r (judged_for (asked words) f) e (for_placed words f)
 
 -- of a list of kinds
 step_placed : (sep : ℕ) (s : List ℕ) (a : Asked) (kinds : List ℕ) (r : Refusal) (old new : List ℕ) → PlacedAsked sep s a →
-    StepRight a kinds (steps.Refused r) old new → Placed sep s r
+    StepRight a kinds (Err (Refused r)) old new → Placed sep s r
 step_placed sep s (a_flow fl) kinds r old new h w = absurd w
 step_placed sep s (no_flow x) kinds r old new h w = let e = w.0 in cc
 
-pub stepped_placed : (sep : ℕ) (s words kinds : List ℕ) (r : Refusal) (old new : List ℕ) →
-    StepRight (asked words) kinds (steps.Refused r) old new → Placed sep s r
-stepped_placed sep s words kinds r old new w = step_placed sep s (asked words) kinds r old new (asked_placed sep s words) w
+pub stepped_placed : (sep : ℕ) (s words kinds : List ℕ) (r : Refusal) (old new : List ℕ) (x : NoStep) → x ≡ Refused r →
+    StepRight (asked words) kinds (Err x) old new → Placed sep s r
+stepped_placed sep s words kinds r old new x is w =
+    step_placed sep s (asked words) kinds r old new (asked_placed sep s words)
+    (subst (λ (y : NoStep). StepRight (asked words) kinds (Err y) old new) is w)
 
 -- of a value that is asked
-abbrev PlacedValue : List ℕ → Value → Type 0
-PlacedValue f (values.Refused r) = Placed bar f r
-PlacedValue f values.Empty = Unit
-PlacedValue f (values.Number z) = Unit
-PlacedValue f (values.Truth b) = Unit
-PlacedValue f (values.Text from to) = Unit
-
 module _ (f : List ℕ) (n k : ℕ) where
-  answer_placed : (to : ℕ) (a : FieldAnswer) → PlacedValue f (as_value n k (place_at bar f n k) to a)
-  answer_placed to (fields.Refused number) = refl
-  answer_placed to fields.Empty = tt
-  answer_placed to (fields.Number z) = tt
-  answer_placed to (fields.Truth b) = tt
-  answer_placed to fields.Text = tt
+  answer_placed : (to : ℕ) (a : Result Content Wrong) → PlacedIn bar f (as_value n k (place_at bar f n k) to a)
+  answer_placed to (Err wrong) = refl
+  answer_placed to (Ok contents.Empty) = tt
+  answer_placed to (Ok (contents.Number z)) = tt
+  answer_placed to (Ok (contents.Truth b)) = tt
+  answer_placed to (Ok contents.Text) = tt
 
-  kind_or_answer : (b : Bool) (a : FieldAnswer) → PlacedValue f (cond b (text_at f n k) (as_value n k (place_at bar f n k) (end_of f n k) a))
+  kind_or_answer : (b : Bool) (a : Result Content Wrong) → PlacedIn bar f (cond b (text_at f n k) (as_value n k (place_at bar f n k) (end_of f n k) a))
   kind_or_answer true a = tt
   kind_or_answer false a = answer_placed (end_of f n k) a
 
-  there_or_not : (b : Bool) (v : Value) → PlacedValue f v → PlacedValue f (must b (values.Refused (refusal_at bar f 18 n k)) v)
-  there_or_not true v h = h
-  there_or_not false v h = refl
-
-  at_placed : (fl : Flow) → PlacedValue f (value_at (layout_for fl) f n k)
+  at_placed : (fl : Flow) → PlacedIn bar f (value_at (layout_for fl) f n k)
   unfolding value_at field_value
-  at_placed fl = there_or_not (is_there f n k) _ (kind_or_answer (eqb k 1) (answer_in (layout_for fl) (record_at f n) k))
+  at_placed fl =
+      first_failing bar f (is_there f n k) (refusal_at bar f 18 n k) _ refl
+      (kind_or_answer (eqb k 1) (answer_in (layout_for fl) (record_at f n) k))
 
-  accepted_or_not : (j : Judged) (v : Value) → PlacedJudged bar f j → PlacedValue f v → PlacedValue f (of_accepted j v)
-  accepted_or_not (files.Accepted m) v g h = h
-  accepted_or_not (files.Refused r) v g h = g
+  accepted_or_not : (j : Result ℕ Refusal) (v : Result Value Refusal) → PlacedIn bar f j → PlacedIn bar f v → PlacedIn bar f (of_accepted j v)
+  accepted_or_not (Ok m) v g h = h
+  accepted_or_not (Err r) v g h = g
 
-  in_placed : (a : Asked) → PlacedAsked bar f a → PlacedValue f (value_in a f n k)
+  in_placed : (a : Asked) → PlacedAsked bar f a → PlacedIn bar f (value_in a f n k)
   unfolding value_in value_by
   in_placed (a_flow fl) h =
       accepted_or_not (with_place bar f (judged_by (layout_for fl) f)) (value_at (layout_for fl) f n k)
       (verdict_placed bar f (judged_by (layout_for fl) f)) (at_placed fl)
   in_placed (no_flow r) h = h
 
-same_value : (f : List ℕ) (r : Refusal) (v : Value) → value_paper f (values.Refused r) ≡ value_paper f v → PlacedValue f v → Placed bar f r
-same_value f r (values.Refused q) e h = cc
-same_value f r values.Empty e h = let z : ◌≡◌ {A = ℕ} 0 1 = cc in absurd (omega arith)
-same_value f r (values.Number z) e h = let z : ◌≡◌ {A = ℕ} 0 1 = cc in absurd (omega arith)
-same_value f r (values.Truth b) e h = let z : ◌≡◌ {A = ℕ} 0 1 = cc in absurd (omega arith)
-same_value f r (values.Text from to) e h = let z : ◌≡◌ {A = ℕ} 0 1 = cc in absurd (omega arith)
+same_value : (f : List ℕ) (r : Refusal) (v : Result Value Refusal) → value_paper f (Err r) ≡ value_paper f v → PlacedIn bar f v → Placed bar f r
+same_value f r (Err q) e h = cc
+same_value f r (Ok values.Empty) e h = let z : ◌≡◌ {A = ℕ} 0 1 = cc in absurd (omega arith)
+same_value f r (Ok (values.Number z)) e h = let z : ◌≡◌ {A = ℕ} 0 1 = cc in absurd (omega arith)
+same_value f r (Ok (values.Truth b)) e h = let z : ◌≡◌ {A = ℕ} 0 1 = cc in absurd (omega arith)
+same_value f r (Ok (values.Text from to)) e h = let z : ◌≡◌ {A = ℕ} 0 1 = cc in absurd (omega arith)
 
-pub valued_placed : (words f : List ℕ) (n k : ℕ) (r : Refusal) → value_paper f (values.Refused r) ≡ valued (asked words) f n k → Placed bar f r
+pub valued_placed : (words f : List ℕ) (n k : ℕ) (r : Refusal) → value_paper f (Err r) ≡ valued (asked words) f n k → Placed bar f r
 unfolding valued
 valued_placed words f n k r e = same_value f r (value_in (asked words) f n k) e (in_placed f n k (asked words) (asked_placed bar f words))
 
 -- of a period that is asked for
-abbrev PlacedPeriod : List ℕ → Answer → Type 0
-PlacedPeriod f (answers.Refused r) = Placed bar f r
-PlacedPeriod f answers.Yes = Unit
-PlacedPeriod f answers.No = Unit
-
 module _ (f : List ℕ) where
-  yes_or_no_lem : (b : Bool) → PlacedPeriod f (yes_or_no b)
-  yes_or_no_lem true = tt
-  yes_or_no_lem false = tt
+  answered_placed : (v : Result ℕ Unplaced) (b : Bool) → PlacedIn bar f (answered f v b)
+  answered_placed (Ok n) b = tt
+  answered_placed (Err r) b = refl
 
-  answered_placed : (v : Verdict) (b : Bool) → PlacedPeriod f (answered f v b)
-  answered_placed (verdicts.Accepted n) b = yes_or_no_lem b
-  answered_placed (verdicts.Refused number n k) b = refl
+  whole_or_not : (b : Bool) (number : ℕ) (a : Result Bool Refusal) → PlacedIn bar f a → PlacedIn bar f (must b (Err (whole number)) a)
+  whole_or_not b number a h = first_failing bar f b (whole number) a (whole_placed bar f number) h
 
-  whole_or_not : (b : Bool) (number : ℕ) (a : Answer) → PlacedPeriod f a → PlacedPeriod f (must b (answers.Refused (whole number)) a)
-  whole_or_not true number a h = h
-  whole_or_not false number a h = whole_placed bar f number
-
-  period_placed : (a : Asked) (p : ℕ) → PlacedAsked bar f a → PlacedPeriod f (has_for a f p)
+  period_placed : (a : Asked) (p : ℕ) → PlacedAsked bar f a → PlacedIn bar f (has_for a f p)
   unfolding has_for has_by
   period_placed (a_flow fl) p h =
       whole_or_not (same_bytes P0012001 fl.name) 22 _
       (whole_or_not (from_to 1 50 p) 18 _ (answered_placed (read_up_to (layout_for fl) f p) (some_has p (up_to p (records f)))))
   period_placed (no_flow r) p h = h
 
-  same_period : (r : Refusal) (a : Answer) → period_paper (answers.Refused r) ≡ period_paper a → PlacedPeriod f a → Placed bar f r
-  same_period r (answers.Refused q) e h = cc
-  same_period r answers.Yes e h = let z : ◌≡◌ {A = ℕ} 0 1 = cc in absurd (omega arith)
-  same_period r answers.No e h = let z : ◌≡◌ {A = ℕ} 0 1 = cc in absurd (omega arith)
+  same_period : (r : Refusal) (a : Result Bool Refusal) → period_paper (Err r) ≡ period_paper a → PlacedIn bar f a → Placed bar f r
+  same_period r (Err q) e h = cc
+  same_period r (Ok b) e h = let z : ◌≡◌ {A = ℕ} 0 1 = cc in absurd (omega arith)
 
-pub has_placed : (words f : List ℕ) (p : ℕ) (r : Refusal) → period_paper (answers.Refused r) ≡ has_period (asked words) f p → Placed bar f r
+pub has_placed : (words f : List ℕ) (p : ℕ) (r : Refusal) → period_paper (Err r) ≡ has_period (asked words) f p → Placed bar f r
 unfolding has_period
 has_placed words f p r e = same_period f r (has_for (asked words) f p) e (period_placed f (asked words) p (asked_placed bar f words))
 
 -- of an index
-abbrev PlacedIndex : List ℕ → Indexed → Type 0
-PlacedIndex f (indexes.Filled records entries) = Unit
-PlacedIndex f (indexes.Refused r) = Placed bar f r
-
 module _ (f : List ℕ) (es : List Entry) (room : ℕ) where
-  room_or_not : (b : Bool) (n : ℕ) → PlacedIndex f (must b (indexes.Refused (whole 19)) (indexes.Filled n (length es)))
-  room_or_not true n = tt
-  room_or_not false n = whole_placed bar f 19
-
-  read_or_not : (j : Judged) → PlacedJudged bar f j → PlacedIndex f (indexed_by j es room)
+  read_or_not : (j : Result ℕ Refusal) → PlacedIn bar f j → PlacedIn bar f (indexed_by j es room)
   unfolding indexed_by
-  read_or_not (files.Accepted n) h = room_or_not (leb (length es) room) n
-  read_or_not (files.Refused r) h = h
+  read_or_not (Ok n) h = first_failing bar f (leb (length es) room) (whole 19) (Ok (filled n (length es))) (whole_placed bar f 19) tt
+  read_or_not (Err r) h = h
 
-pub index_placed : (words f : List ℕ) (room : ℕ) (r : Refusal) → answer_for (asked words) f room ≡ indexes.Refused r → Placed bar f r
+pub index_placed : (words f : List ℕ) (room : ℕ) (r : Refusal) → answer_for (asked words) f room ≡ Err r → Placed bar f r
 index_placed words f room r e =
-    subst (PlacedIndex f) e (read_or_not f (entries_for (asked words) f) room (judged_for (asked words) f) (for_placed words f))
+    subst (PlacedIn bar f) e (read_or_not f (entries_for (asked words) f) room (judged_for (asked words) f) (for_placed words f))
 
 -- of a sheet that is written, and of a file that is read or exported
 module _ (sep : ℕ) (s : List ℕ) where
-  first_failing : (b : Bool) (r : Refusal) (t : Transfer) → Placed sep s r → PlacedIn sep s t → PlacedIn sep s (must b (Refused r) t)
-  first_failing true r t h g = g
-  first_failing false r t h g = h
-
   fitted_placed : (room : ℕ) (result : List ℕ) (n : ℕ) → PlacedIn sep s (fitted room result n)
-  fitted_placed room result n = first_failing (leb (length result) room) (whole 17) (Done n (length result)) (whole_placed sep s 17) tt
+  fitted_placed room result n = first_failing sep s (leb (length result) room) (whole 17) (transferred n (length result)) (whole_placed sep s 17) tt
 
-  transfer_placed : (j : Judged) → PlacedJudged sep s j → (room : ℕ) (result : List ℕ) → PlacedIn sep s (as_judged j (fitted room result))
-  transfer_placed (files.Accepted n) h room result = fitted_placed room result n
-  transfer_placed (files.Refused r) h room result = h
+  transfer_placed : (j : Result ℕ Refusal) → PlacedIn sep s j → (room : ℕ) (result : List ℕ) → PlacedIn sep s (as_judged j (fitted room result))
+  transfer_placed (Ok n) h room result = fitted_placed room result n
+  transfer_placed (Err r) h room result = h
 
   same_transfer : (a t : Transfer) → transfer_paper a ≡ transfer_paper t → PlacedIn sep s t → PlacedIn sep s a
-  same_transfer (Done n b) t e h = tt
-  same_transfer (Refused r) (Done n b) e h = let z : ◌≡◌ {A = ℕ} 0 1 = cc in absurd (omega arith)
-  same_transfer (Refused r) (Refused q) e h = cc
+  same_transfer (Ok x) t e h = tt
+  same_transfer (Err r) (Ok x) e h = let z : ◌≡◌ {A = ℕ} 0 1 = cc in absurd (omega arith)
+  same_transfer (Err r) (Err q) e h = cc
 
 sheet_placed : (fl : Flow) (sheet : List ℕ) (room : ℕ) → PlacedIn tab sheet (written_by (layout_for fl) sheet room)
 unfolding written_by
@@ -272,5 +238,5 @@ reply_placed {text} (imports.Imported.no_room x h z k) = sym (at_zero comma text
 reply_placed (imports.Imported.made x h z k) = tt
 
 pub imported_placed : {text old new : List ℕ} (a : Transfer) → Imported text old (transfer_paper a) new → PlacedIn comma text a
-imported_placed (Done n b) i = tt
-imported_placed (Refused r) i = reply_placed i
+imported_placed (Ok t) i = tt
+imported_placed (Err r) i = reply_placed i

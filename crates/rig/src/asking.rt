@@ -2,19 +2,16 @@
 ghost use Rattle.record.specs.Records.{bar};
 ghost use Rattle.pointing.specs.Shown.{Placed};
 
-use crate::arguments::{hinder, load_word, number_word, refused, well};
+use crate::arguments::{Hindered, hinder, load_word, number_word};
 use crate::judging::refuse;
-use field::{FieldAnswer, FieldType, Mark};
-use flow::StepAnswer;
-use period::Answer;
+use field::{Content, FieldType, Mark};
+use flow::NoStep;
 use place::Refusal;
 use printing::{print_numbers, print_refusal, print_truth, print_value, print_whole};
 use record::BAR;
 use std::rt::{Env, Files};
-use stream::Ending;
-use text::same_bytes;
+use stream::{Ending, Unwritten};
 use value::Value;
-use words::{Form, Marked, Number};
 
 // Prints the value of one field of a file.
 fn value_in(
@@ -23,27 +20,24 @@ fn value_in(
     file: &[u8],
     record: usize,
     field: usize,
-) -> Ending {
+) -> Result<Ending, Hindered> {
     match value::value_of(flow, file, record, field) {
-        Value::Refused(r) => refuse(rt, flow, BAR, file, r),
-        Value::Empty => well(print_value(rt, b"empty", b"")),
-        Value::Number(n) => well(print_whole(rt, n)),
-        Value::Truth(truth) => well(print_truth(rt, truth)),
-        Value::Text { from, to } => well(print_value(
-            rt,
-            b"text",
-            text::part(text::part(file, 0, to), from, to),
-        )),
+        Err(r) => return refuse(rt, flow, BAR, file, r),
+        Ok(Value::Empty) => print_value(rt, b"empty", b"")?,
+        Ok(Value::Number(n)) => print_whole(rt, n)?,
+        Ok(Value::Truth(truth)) => print_truth(rt, truth)?,
+        Ok(Value::Text { from, to }) => print_value(rt, b"text", &file[from..to])?,
     }
+    Ok(Ending::Well)
 }
 
 // Prints the value of the field that words 4 and 5 ask for.
-fn value_asked(rt: &(impl Env + Print + Eprint), file: &[u8]) -> Ending {
-    let Number::Is(record) = number_word(rt, 4) else {
-        return hinder(rt, b"RECORD is a whole number up to 1,000,000,000");
+fn value_asked(rt: &(impl Env + Print + Eprint), file: &[u8]) -> Result<Ending, Hindered> {
+    let Some(record) = number_word(rt, 4) else {
+        return Err(hinder(rt, b"RECORD is a whole number up to 1,000,000,000"));
     };
-    let Number::Is(field) = number_word(rt, 5) else {
-        return hinder(rt, b"FIELD is a whole number up to 1,000,000,000");
+    let Some(field) = number_word(rt, 5) else {
+        return Err(hinder(rt, b"FIELD is a whole number up to 1,000,000,000"));
     };
     let mut flow = io::large_buffer();
     let f = stream::arg(rt, 2, &mut flow);
@@ -51,12 +45,11 @@ fn value_asked(rt: &(impl Env + Print + Eprint), file: &[u8]) -> Ending {
 }
 
 // value FLOW FILE RECORD FIELD
-pub fn value_of(rt: &(impl Env + Files + Print + Eprint), room: &mut [u8]) -> Ending {
-    let file = load_word(rt, 3, room);
-    if !file.read {
-        return Ending::Hindered;
-    }
-    let size = file.size;
+pub fn value_of(
+    rt: &(impl Env + Files + Print + Eprint),
+    room: &mut [u8],
+) -> Result<Ending, Hindered> {
+    let size = load_word(rt, 3, room)?;
     value_asked(rt, &room[..size])
 }
 
@@ -67,29 +60,35 @@ fn refuse_period(
     file: &[u8],
     period: usize,
     r: Refusal,
-) -> Ending
+) -> Result<Ending, Hindered>
     requires { Placed bar file.now r }
 {
-    refused(
-        print_refusal(rt, r)
-            && sentences::about_period(rt, flow, file, period, r)
-            && pointing::point(rt, BAR, file, r),
-    )
+    print_refusal(rt, r)?;
+    sentences::about_period(rt, flow, file, period, r)?;
+    pointing::point(rt, BAR, file, r)?;
+    Ok(Ending::Refused)
 }
 
 // Prints whether a period is in a file, as a truth.
-fn period_in(rt: &(impl Print + Eprint), flow: &[u8], file: &[u8], period: usize) -> Ending {
+fn period_in(
+    rt: &(impl Print + Eprint),
+    flow: &[u8],
+    file: &[u8],
+    period: usize,
+) -> Result<Ending, Hindered> {
     match period::has(flow, file, period) {
-        Answer::Refused(r) => refuse_period(rt, flow, file, period, r),
-        Answer::Yes => well(print_truth(rt, true)),
-        Answer::No => well(print_truth(rt, false)),
+        Err(r) => refuse_period(rt, flow, file, period, r),
+        Ok(has) => {
+            print_truth(rt, has)?;
+            Ok(Ending::Well)
+        }
     }
 }
 
 // Prints whether the period that word 4 asks for is in a file.
-fn period_asked(rt: &(impl Env + Print + Eprint), file: &[u8]) -> Ending {
-    let Number::Is(period) = number_word(rt, 4) else {
-        return hinder(rt, b"PERIOD is a whole number up to 1,000,000,000");
+fn period_asked(rt: &(impl Env + Print + Eprint), file: &[u8]) -> Result<Ending, Hindered> {
+    let Some(period) = number_word(rt, 4) else {
+        return Err(hinder(rt, b"PERIOD is a whole number up to 1,000,000,000"));
     };
     let mut flow = io::large_buffer();
     let f = stream::arg(rt, 2, &mut flow);
@@ -97,30 +96,26 @@ fn period_asked(rt: &(impl Env + Print + Eprint), file: &[u8]) -> Ending {
 }
 
 // period FLOW FILE PERIOD
-pub fn period_of(rt: &(impl Env + Files + Print + Eprint), room: &mut [u8]) -> Ending {
-    let file = load_word(rt, 3, room);
-    if !file.read {
-        return Ending::Hindered;
-    }
-    let size = file.size;
+pub fn period_of(
+    rt: &(impl Env + Files + Print + Eprint),
+    room: &mut [u8],
+) -> Result<Ending, Hindered> {
+    let size = load_word(rt, 3, room)?;
     period_asked(rt, &room[..size])
 }
 
 // sum FILE
-pub fn sum_of(rt: &(impl Env + Files + Print + Eprint), room: &mut [u8]) -> Ending {
-    let file = load_word(rt, 2, room);
-    if !file.read {
-        return Ending::Hindered;
-    }
-    let size = file.size;
+pub fn sum_of(
+    rt: &(impl Env + Files + Print + Eprint),
+    room: &mut [u8],
+) -> Result<Ending, Hindered> {
+    let size = load_word(rt, 2, room)?;
     if 1048576 < size {
-        return hinder(rt, b"FILE has more than 1,048,576 bytes");
+        return Err(hinder(rt, b"FILE has more than 1,048,576 bytes"));
     }
-    well(print_numbers(
-        rt,
-        b"ok",
-        &[0, checksum::of_bytes(&room[..size]) as usize, 0],
-    ))
+    let sum = checksum::of_bytes(&room[..size]);
+    print_numbers(rt, b"ok", &[0, sum as usize, 0])?;
+    Ok(Ending::Well)
 }
 
 // Prints that a field is refused, and the sentence on it.
@@ -131,11 +126,10 @@ fn refuse_field(
     fixed: &[u8],
     bytes: &[u8],
     number: usize,
-) -> Ending {
-    refused(
-        print_refusal(rt, place::whole(number))
-            && sentences::about_field(rt, form, mark, fixed, bytes, number),
-    )
+) -> Result<Ending, Hindered> {
+    print_refusal(rt, place::whole(number))?;
+    sentences::about_field(rt, form, mark, fixed, bytes, number)?;
+    Ok(Ending::Refused)
 }
 
 // Prints what one field's bytes are by a type and its mark.
@@ -145,25 +139,26 @@ fn field_by(
     mark: Mark,
     fixed: &[u8],
     bytes: &[u8],
-) -> Ending {
+) -> Result<Ending, Hindered> {
     match field::judge(form, mark, fixed, bytes) {
-        FieldAnswer::Refused(number) => refuse_field(rt, form, mark, fixed, bytes, number as usize),
-        FieldAnswer::Empty => well(print_value(rt, b"empty", b"")),
-        FieldAnswer::Number(n) => well(print_whole(rt, n)),
-        FieldAnswer::Truth(truth) => well(print_truth(rt, truth)),
-        FieldAnswer::Text => well(print_value(rt, b"text", bytes)),
+        Err(wrong) => return refuse_field(rt, form, mark, fixed, bytes, wrong.number() as usize),
+        Ok(Content::Empty) => print_value(rt, b"empty", b"")?,
+        Ok(Content::Number(n)) => print_whole(rt, n)?,
+        Ok(Content::Truth(truth)) => print_truth(rt, truth)?,
+        Ok(Content::Text) => print_value(rt, b"text", bytes)?,
     }
+    Ok(Ending::Well)
 }
 
 // The type that word 2 spells.
-fn form_word(rt: &impl Env) -> Form {
+fn form_word(rt: &impl Env) -> Option<FieldType> {
     let mut spelled = io::large_buffer();
     let n = stream::arg(rt, 2, &mut spelled);
     words::read_form(&spelled[..n])
 }
 
 // Says which types there are.
-fn no_type(rt: &impl Eprint) -> Ending {
+fn no_type(rt: &impl Eprint) -> Hindered {
     hinder(
         rt,
         b"TYPE is text(n), int(n), dec(p,q), date, datetime, bol, period or null",
@@ -171,9 +166,9 @@ fn no_type(rt: &impl Eprint) -> Ending {
 }
 
 // field TYPE BYTES
-pub fn bare_field(rt: &(impl Env + Print + Eprint)) -> Ending {
-    let Form::Is(form) = form_word(rt) else {
-        return no_type(rt);
+pub fn bare_field(rt: &(impl Env + Print + Eprint)) -> Result<Ending, Hindered> {
+    let Some(form) = form_word(rt) else {
+        return Err(no_type(rt));
     };
     let mut bytes = io::large_buffer();
     let n = stream::arg(rt, 3, &mut bytes);
@@ -181,26 +176,25 @@ pub fn bare_field(rt: &(impl Env + Print + Eprint)) -> Ending {
 }
 
 // The mark that a word spells: a fixed value stands behind its `=`.
-fn mark_of(spelled: &[u8]) -> Marked {
-    let first = text::part(spelled, 0, 1);
-    if same_bytes(first, b"=") {
-        return words::read_mark(first);
+fn mark_of(spelled: &[u8]) -> Option<Mark> {
+    if spelled.starts_with(b"=") {
+        return words::read_mark(b"=");
     }
     words::read_mark(spelled)
 }
 
 // field TYPE MARK BYTES
-pub fn marked_field(rt: &(impl Env + Print + Eprint)) -> Ending {
-    let Form::Is(form) = form_word(rt) else {
-        return no_type(rt);
+pub fn marked_field(rt: &(impl Env + Print + Eprint)) -> Result<Ending, Hindered> {
+    let Some(form) = form_word(rt) else {
+        return Err(no_type(rt));
     };
     let mut spelled = io::large_buffer();
     let m = stream::arg(rt, 3, &mut spelled);
-    let Marked::Is(mark) = mark_of(&spelled[..m]) else {
-        return hinder(
+    let Some(mark) = mark_of(&spelled[..m]) else {
+        return Err(hinder(
             rt,
             b"MARK is opt, = with the fixed value behind it, or - for none",
-        );
+        ));
     };
     let mut bytes = io::large_buffer();
     let n = stream::arg(rt, 4, &mut bytes);
@@ -208,27 +202,32 @@ pub fn marked_field(rt: &(impl Env + Print + Eprint)) -> Ending {
 }
 
 // Prints where a list of kinds stopped, and the sentence on it.
-fn stop(rt: &(impl Print + Eprint), flow: &[u8], kinds: &[u8], place: usize) -> Ending {
-    refused(
-        print_numbers(rt, b"stopped", &[0, place, 0])
-            && sentences::about_stop(rt, flow, kinds, place),
-    )
+fn stop(
+    rt: &(impl Print + Eprint),
+    flow: &[u8],
+    kinds: &[u8],
+    place: usize,
+) -> Result<Ending, Hindered> {
+    print_numbers(rt, b"stopped", &[0, place, 0])?;
+    sentences::about_stop(rt, flow, kinds, place)?;
+    Ok(Ending::Refused)
 }
 
 // Prints where a list of kinds leads.
-fn step_by(rt: &(impl Print + Eprint), flow: &[u8], kinds: &[u8]) -> Ending {
+fn step_by(rt: &(impl Print + Eprint), flow: &[u8], kinds: &[u8]) -> Result<Ending, Hindered> {
     let mut follow = [0u8; 96];
     match flow::step(flow, kinds, &mut follow) {
-        StepAnswer::Refused(r) => refuse(rt, flow, BAR, b"", r),
-        StepAnswer::Stopped(place) => stop(rt, flow, kinds, place),
-        StepAnswer::Through { count, complete } => {
-            well(printing::print_follow(rt, count, complete, &follow))
+        Err(NoStep::Refused(r)) => refuse(rt, flow, BAR, b"", r),
+        Err(NoStep::Stopped(place)) => stop(rt, flow, kinds, place),
+        Ok(through) => {
+            printing::print_follow(rt, through.count, through.complete, &follow)?;
+            Ok(Ending::Well)
         }
     }
 }
 
 // step FLOW KINDS
-pub fn step_words(rt: &(impl Env + Print + Eprint)) -> Ending {
+pub fn step_words(rt: &(impl Env + Print + Eprint)) -> Result<Ending, Hindered> {
     let mut flow = io::large_buffer();
     let f = stream::arg(rt, 2, &mut flow);
     let mut kinds = io::large_buffer();
@@ -237,17 +236,18 @@ pub fn step_words(rt: &(impl Env + Print + Eprint)) -> Ending {
 }
 
 // Says which refusals there are.
-fn no_rule(rt: &impl Eprint) -> Ending {
+fn no_rule(rt: &impl Eprint) -> Hindered {
     hinder(rt, b"NUMBER is 1 to 22")
 }
 
 // explain NUMBER
-pub fn explain_word(rt: &(impl Env + Print + Eprint)) -> Ending {
-    let Number::Is(n) = number_word(rt, 2) else {
-        return no_rule(rt);
+pub fn explain_word(rt: &(impl Env + Print + Eprint)) -> Result<Ending, Hindered> {
+    let Some(n) = number_word(rt, 2) else {
+        return Err(no_rule(rt));
     };
     if !findings::is_refusal(n) {
-        return no_rule(rt);
+        return Err(no_rule(rt));
     }
-    well(sentences::explain(rt, n))
+    sentences::explain(rt, n)?;
+    Ok(Ending::Well)
 }

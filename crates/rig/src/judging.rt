@@ -1,32 +1,29 @@
 // judge FLOW FILE..: files judged for a flow.
-ghost use Rattle.std.specs.Prelude.{◌≡◌, true, ◌+◌, ◌^◌, ◌<◌};
+ghost use Rattle.std.specs.Prelude.{◌≡◌, ◌+◌, ◌^◌, ◌<◌, IfOk};
 ghost use Rattle.pointing.specs.Shown.{Placed};
 ghost use Rattle.rig.specs.Tally.{counted_of, ending_of};
 
-use crate::arguments::refused;
-use judge::Judged;
+use crate::arguments::Hindered;
 use place::Refusal;
 use printing::print_accepted;
 use record::BAR;
 use std::rt::{Env, Files};
-use stream::{Ending, print, print_number};
+use stream::{Ending, Unwritten, print, print_number};
 
-// What came of one file; it is unwritten where its answer could not be written.
+// What came of one file.
 #[derive(Clone, Copy)]
 pub enum Outcome {
     Accepted,
     Refused,
     Unread,
-    Unwritten,
 }
 
-// How many files were accepted, refused and not read, and whether each answer was written.
+// How many files were accepted, refused and not read.
 #[derive(Clone, Copy)]
 pub struct Tally {
     pub accepted: usize,
     pub refused: usize,
     pub unread: usize,
-    pub written: bool,
 }
 
 // Prints a refusal of a file or a sheet, the sentence on it, and the byte that it points at.
@@ -36,37 +33,46 @@ pub fn print_refusal(
     sep: u8,
     file: &[u8],
     r: Refusal,
-) -> bool
+) -> Result<(), Unwritten>
     requires { Placed sep file.now r }
 {
-    printing::print_refusal(rt, r)
-        && sentences::about_file(rt, flow, sep, file, r)
-        && pointing::point(rt, sep, file, r)
+    printing::print_refusal(rt, r)?;
+    sentences::about_file(rt, flow, sep, file, r)?;
+    pointing::point(rt, sep, file, r)
 }
 
 // Ends a command with a refusal of a file or a sheet.
-pub fn refuse(rt: &(impl Print + Eprint), flow: &[u8], sep: u8, file: &[u8], r: Refusal) -> Ending
+pub fn refuse(
+    rt: &(impl Print + Eprint),
+    flow: &[u8],
+    sep: u8,
+    file: &[u8],
+    r: Refusal,
+) -> Result<Ending, Hindered>
     requires { Placed sep file.now r }
 {
-    refused(print_refusal(rt, flow, sep, file, r))
-}
-
-// What came of a file whose answer may not have been written.
-fn written_or(written: bool, o: Outcome) -> Outcome {
-    if written { o } else { Outcome::Unwritten }
+    print_refusal(rt, flow, sep, file, r)?;
+    Ok(Ending::Refused)
 }
 
 // Judges the bytes of a file and prints the answer.
-fn judge_bytes(rt: &(impl Print + Eprint), flow: &[u8], file: &[u8]) -> Outcome {
+fn judge_bytes(rt: &(impl Print + Eprint), flow: &[u8], file: &[u8]) -> Result<Outcome, Unwritten> {
     match judge::judge(flow, file) {
-        Judged::Accepted(records) => written_or(print_accepted(rt, records), Outcome::Accepted),
-        Judged::Refused(r) => written_or(print_refusal(rt, flow, BAR, file, r), Outcome::Refused),
+        Ok(records) => {
+            print_accepted(rt, records)?;
+            Ok(Outcome::Accepted)
+        }
+        Err(r) => {
+            print_refusal(rt, flow, BAR, file, r)?;
+            Ok(Outcome::Refused)
+        }
     }
 }
 
 // Prints a file's name in front of its answer.
-fn print_name(rt: &(impl Print + Eprint), path: &[u8]) -> bool {
-    stream::print_shown(rt, path) && print(rt, b"\t")
+fn print_name(rt: &(impl Print + Eprint), path: &[u8]) -> Result<(), Unwritten> {
+    stream::print_shown(rt, path)?;
+    print(rt, b"\t")
 }
 
 // Judges the file that word i names; its name stands in front of the answer where it is asked.
@@ -76,19 +82,15 @@ fn judge_word(
     i: usize,
     named: bool,
     room: &mut [u8],
-) -> Outcome {
+) -> Result<Outcome, Unwritten> {
     let mut path = io::large_buffer();
     let n = stream::arg(rt, i, &mut path);
-    let loaded = stream::load(rt, b"rig", &path[..n], room);
-    if !loaded.read {
-        return Outcome::Unread;
-    }
+    let Some(size) = stream::load(rt, b"rig", &path[..n], room) else {
+        return Ok(Outcome::Unread);
+    };
     if named {
-        if !print_name(rt, &path[..n]) {
-            return Outcome::Unwritten;
-        }
+        print_name(rt, &path[..n])?;
     }
-    let size = loaded.size;
     judge_bytes(rt, flow, &room[..size])
 }
 
@@ -100,58 +102,48 @@ fn counted(t: Tally, o: Outcome) -> Tally
     match o {
         Outcome::Accepted => Tally {
             accepted: t.accepted + 1,
-            refused: t.refused,
-            unread: t.unread,
-            written: t.written,
+            ..t
         },
         Outcome::Refused => Tally {
-            accepted: t.accepted,
             refused: t.refused + 1,
-            unread: t.unread,
-            written: t.written,
+            ..t
         },
         Outcome::Unread => Tally {
-            accepted: t.accepted,
-            refused: t.refused,
             unread: t.unread + 1,
-            written: t.written,
-        },
-        Outcome::Unwritten => Tally {
-            accepted: t.accepted,
-            refused: t.refused,
-            unread: t.unread,
-            written: false,
+            ..t
         },
     }
 }
 
 // How many files were not read, where some were not.
-fn print_unread(rt: &(impl Print + Eprint), unread: usize) -> bool {
+fn print_unread(rt: &(impl Print + Eprint), unread: usize) -> Result<(), Unwritten> {
     if unread == 0 {
-        return true;
+        return Ok(());
     }
-    print(rt, b", ") && print_number(rt, unread as u64) && print(rt, b" not read")
+    print(rt, b", ")?;
+    print_number(rt, unread as u64)?;
+    print(rt, b" not read")
 }
 
 // Prints the last line of a run over many files.
-fn print_tally(rt: &(impl Print + Eprint), files: usize, t: Tally) -> bool {
-    print_number(rt, files as u64)
-        && print(rt, b" files, ")
-        && print_number(rt, t.accepted as u64)
-        && print(rt, b" accepted, ")
-        && print_number(rt, t.refused as u64)
-        && print(rt, b" refused")
-        && print_unread(rt, t.unread)
-        && print(rt, b"\n")
+fn print_tally(rt: &(impl Print + Eprint), files: usize, t: Tally) -> Result<(), Unwritten> {
+    print_number(rt, files as u64)?;
+    print(rt, b" files, ")?;
+    print_number(rt, t.accepted as u64)?;
+    print(rt, b" accepted, ")?;
+    print_number(rt, t.refused as u64)?;
+    print(rt, b" refused")?;
+    print_unread(rt, t.unread)?;
+    print(rt, b"\n")
 }
 
-// How a run over many files ends: a file that was not read weighs more than one that was refused.
-fn ending_of(t: Tally) -> Ending
-    ensures { result ≡ ending_of t }
+// How a run over many files ends: an answer that was not written weighs most, then a file that was not read, then one refused.
+fn ending_of(run: Result<Tally, Unwritten>) -> Ending
+    ensures { result ≡ ending_of run }
 {
-    if !t.written {
+    let Ok(t) = run else {
         return Ending::Hindered;
-    }
+    };
     if 0 < t.unread {
         return Ending::Hindered;
     }
@@ -168,25 +160,33 @@ fn judge_all(
     count: usize,
     named: bool,
     room: &mut [u8],
-) -> Tally
+) -> Result<Tally, Unwritten>
     requires { 3 < count }
-    ensures { result.written ≡ true → result.accepted + result.refused + result.unread + 3 ≡ count }
+    ensures { IfOk result (λ t. t.accepted + t.refused + t.unread + 3 ≡ count) }
 {
     let mut t = Tally {
         accepted: 0,
         refused: 0,
         unread: 0,
-        written: true,
     };
-    let mut i = 3;
-    while i < count {
-        t = counted(t, judge_word(rt, flow, i, named, room));
-        if !t.written {
-            return t;
-        }
-        i += 1;
+    for i in 3..count {
+        t = counted(t, judge_word(rt, flow, i, named, room)?);
     }
-    t
+    Ok(t)
+}
+
+// The same with each file's name before its answer, and a tally.
+fn judge_named(
+    rt: &(impl Env + Files + Print + Eprint),
+    flow: &[u8],
+    count: usize,
+    room: &mut [u8],
+) -> Result<Tally, Unwritten>
+    requires { 3 < count }
+{
+    let t = judge_all(rt, flow, count, true, room)?;
+    print_tally(rt, count - 3, t)?;
+    Ok(t)
 }
 
 // judge FLOW FILE, and for more than one file each name before its answer, and a tally.
@@ -202,9 +202,5 @@ pub fn judge_files(
     if count == 4 {
         return ending_of(judge_all(rt, &flow[..f], count, false, room));
     }
-    let t = judge_all(rt, &flow[..f], count, true, room);
-    if t.written && print_tally(rt, count - 3, t) {
-        return ending_of(t);
-    }
-    Ending::Hindered
+    ending_of(judge_named(rt, &flow[..f], count, room))
 }

@@ -9,8 +9,10 @@ mod indexing;
 mod judging;
 mod making;
 
+use stream::Ending;
+
 // One byte more than a file may have, so that a file that is too long shows.
 fn main(rt: HostRuntime) {
     let mut room = [0u8; 1048577];
-    stream::end(&rt, call::run(&rt, &mut room));
+    stream::end(&rt, call::run(&rt, &mut room).unwrap_or(Ending::Hindered));
 }

@@ -2,8 +2,7 @@
 use Prim.Native.Nat.{ℕ}
 use mathlib.Core.Path.{◌≡◌, ap, ◌∙◌}
 use mathlib.Core.List.{List}
-use Rattle.sheet.specs.Write.{paper, output, Handed}
-use Rattle.sheet.specs.declared.Transfer.{Transfer}
+use Rattle.sheet.specs.Write.{Transfer, paper, output, Handed}
 use Rattle.sheet.proofs.RoundTrip.{same_answer}
 use Rattle.screen.specs.Numbers.{transfer_cells, HandedCells}
 

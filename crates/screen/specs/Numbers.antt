@@ -13,7 +13,7 @@ use Rattle.value.specs.Value as values
 use Rattle.sheet.specs.Sheets.{made, sheet_of}
 use Rattle.sheet.specs.Write as writing
 use Rattle.sheet.specs.Read as reading
-use Rattle.sheet.specs.declared.Transfer.{Transfer}
+use Rattle.sheet.specs.Write.{Transfer}
 use Rattle.csv_text.specs.Export as exporting
 use Rattle.csv_text.specs.Import as importing
 

@@ -13,15 +13,13 @@ ghost use Rattle.judge.specs.File.{judged, paper as judge_paper};
 ghost use Rattle.period.specs.Answer.{has_period, paper as period_paper};
 ghost use Rattle.sheet.specs.Write.{paper as transfer_paper};
 ghost use Rattle.value.specs.Value.{valued, paper as value_paper};
-ghost use Rattle.screen.specs.Numbers.{refusal_cells, judge_cells, transfer_cells, WroteCells, ReadCells, ExportedCells, ImportedCells, flag_of, number_cells, value_cells, period_cells, field_cells, field_asked, step_cells, Stepped, index_cells, FilledCells};
+ghost use Rattle.screen.specs.Numbers.{refusal_cells, judge_cells, transfer_cells, WroteCells, ReadCells, ExportedCells, ImportedCells, number_cells, value_cells, period_cells, field_cells, field_asked, step_cells, Stepped, index_cells, FilledCells};
 
 use field::{FieldType, Mark};
-use flow::StepAnswer;
-use index::Indexed;
-use judge::Judged;
-use period::Answer;
+use flow::{NoStep, Through};
+use index::Filled;
 use place::Refusal;
-use sheet::Transfer;
+use sheet::Transferred;
 use value::Value;
 
 // A refusal's number, record, field and place.
@@ -37,12 +35,12 @@ fn refusal_cells(r: Refusal) -> [u64; 4]
 }
 
 // What is said of a file.
-fn judge_cells(v: Judged) -> [u64; 4]
+fn judge_cells(v: Result<usize, Refusal>) -> [u64; 4]
     ensures { result ≡ judge_cells (judge_paper v) }
 {
     match v {
-        Judged::Accepted(records) => [0, records as u64, 0, 0],
-        Judged::Refused(refusal) => refusal_cells(refusal),
+        Ok(records) => [0, records as u64, 0, 0],
+        Err(refusal) => refusal_cells(refusal),
     }
 }
 
@@ -55,12 +53,12 @@ pub extern "C" fn screen_judge(flow: &[u8], file: &[u8], answer: &mut [u64; 4])
 }
 
 // What is said of a file written or exported, of a sheet read or imported.
-fn transfer_cells(t: Transfer) -> [u64; 4]
+fn transfer_cells(t: Result<Transferred, Refusal>) -> [u64; 4]
     ensures { result ≡ transfer_cells (transfer_paper t) }
 {
     match t {
-        Transfer::Done { records, bytes } => [0, records as u64, bytes as u64, 0],
-        Transfer::Refused(refusal) => refusal_cells(refusal),
+        Ok(done) => [0, done.records as u64, done.bytes as u64, 0],
+        Err(refusal) => refusal_cells(refusal),
     }
 }
 
@@ -96,13 +94,6 @@ pub extern "C" fn screen_import(text: &[u8], out: &mut [u8], answer: &mut [u64; 
     *answer = transfer_cells(csv_text::import(text, out));
 }
 
-// Yes is 1, no is 0.
-fn flag(b: bool) -> u64
-    ensures { result ≡ flag_of b }
-{
-    if b { 1 } else { 0 }
-}
-
 // A number with its sign. One below zero is turned from -1 on, so that the lowest number has a size too.
 fn number_cells(z: i64) -> [u64; 4]
     ensures { result ≡ number_cells z }
@@ -114,15 +105,15 @@ fn number_cells(z: i64) -> [u64; 4]
 }
 
 // The value of a field of a file.
-fn value_cells(v: Value) -> [u64; 4]
+fn value_cells(v: Result<Value, Refusal>) -> [u64; 4]
     ensures { (f : List ℕ) → result ≡ value_cells (value_paper f v) }
 {
     match v {
-        Value::Refused(refusal) => refusal_cells(refusal),
-        Value::Empty => [0, 1, 0, 0],
-        Value::Number(z) => number_cells(z),
-        Value::Truth(b) => [0, 3, flag(b), 0],
-        Value::Text { from, to } => [0, 4, from as u64, to as u64],
+        Err(refusal) => refusal_cells(refusal),
+        Ok(Value::Empty) => [0, 1, 0, 0],
+        Ok(Value::Number(z)) => number_cells(z),
+        Ok(Value::Truth(b)) => [0, 3, u64::from(b), 0],
+        Ok(Value::Text { from, to }) => [0, 4, from as u64, to as u64],
     }
 }
 
@@ -135,13 +126,12 @@ pub extern "C" fn screen_value(flow: &[u8], file: &[u8], n: usize, k: usize, ans
 }
 
 // What is said of a period in a file, as a truth.
-fn period_cells(a: Answer) -> [u64; 4]
+fn period_cells(a: Result<bool, Refusal>) -> [u64; 4]
     ensures { result ≡ period_cells (period_paper a) }
 {
     match a {
-        Answer::Refused(refusal) => refusal_cells(refusal),
-        Answer::Yes => [0, 3, 1, 0],
-        Answer::No => [0, 3, 0, 0],
+        Err(refusal) => refusal_cells(refusal),
+        Ok(b) => [0, 3, u64::from(b), 0],
     }
 }
 
@@ -214,13 +204,13 @@ pub extern "C" fn screen_checksum(bytes: &[u8]) -> u32
 }
 
 // What the step answers.
-fn step_cells(a: StepAnswer) -> [u64; 4]
+fn step_cells(a: Result<Through, NoStep>) -> [u64; 4]
     ensures { result ≡ step_cells (step_paper a) }
 {
     match a {
-        StepAnswer::Refused(refusal) => refusal_cells(refusal),
-        StepAnswer::Stopped(place) => [0, place as u64, 0, 0],
-        StepAnswer::Through { count, complete } => [0, 0, count as u64, flag(complete)],
+        Err(NoStep::Refused(refusal)) => refusal_cells(refusal),
+        Err(NoStep::Stopped(place)) => [0, place as u64, 0, 0],
+        Ok(Through { count, complete }) => [0, 0, count as u64, u64::from(complete)],
     }
 }
 
@@ -238,12 +228,12 @@ pub extern "C" fn screen_step(
 }
 
 // What is said of an index.
-fn index_cells(i: Indexed) -> [u64; 4]
-    ensures { result ≡ index_cells (index_paper i) }
+fn index_cells(said: Result<Filled, Refusal>) -> [u64; 4]
+    ensures { result ≡ index_cells (index_paper said) }
 {
-    match i {
-        Indexed::Filled { records, entries } => [0, records as u64, entries as u64, 0],
-        Indexed::Refused(refusal) => refusal_cells(refusal),
+    match said {
+        Ok(Filled { records, entries }) => [0, records as u64, entries as u64, 0],
+        Err(refusal) => refusal_cells(refusal),
     }
 }
 

@@ -1,7 +1,7 @@
 // The sentence on one field's bytes.
 use crate::{form, refusals, say};
 use field::{FieldType, Mark};
-use stream::print;
+use stream::{Unwritten, print};
 
 // The rule of a refusal, and what was found; for a width, the rule of its type alone.
 fn rule_and_found(
@@ -9,11 +9,12 @@ fn rule_and_found(
     form: FieldType,
     bytes: &[u8],
     number: usize,
-) -> bool {
+) -> Result<(), Unwritten> {
     if number == 18 {
         return form::width_words(rt, form);
     }
-    refusals::rule(rt, number) && say::found_field(rt, bytes)
+    refusals::rule(rt, number)?;
+    say::found_field(rt, bytes)
 }
 
 // The sentence on bytes that were refused by a type and its mark.
@@ -24,9 +25,9 @@ pub fn about_field(
     fixed: &[u8],
     bytes: &[u8],
     number: usize,
-) -> bool {
-    print(rt, b"The rule: ")
-        && rule_and_found(rt, form, bytes, number)
-        && form::right_field(rt, number, form, mark, fixed, bytes)
-        && print(rt, b".\n")
+) -> Result<(), Unwritten> {
+    print(rt, b"The rule: ")?;
+    rule_and_found(rt, form, bytes, number)?;
+    form::right_field(rt, number, form, mark, fixed, bytes)?;
+    print(rt, b".\n")
 }

@@ -1,24 +1,27 @@
 // Types and marks, and what they ask of a field, in words.
 use crate::{calendar, say};
 use field::{FieldType, Mark};
-use stream::print;
+use stream::{Unwritten, print};
 
 // A name and one width.
-fn wide(rt: &(impl Print + Eprint), name: &[u8], n: usize) -> bool {
-    print(rt, name) && print(rt, b"(") && say::number(rt, n) && print(rt, b")")
+fn wide(rt: &(impl Print + Eprint), name: &[u8], n: usize) -> Result<(), Unwritten> {
+    print(rt, name)?;
+    print(rt, b"(")?;
+    say::number(rt, n)?;
+    print(rt, b")")
 }
 
 // The name and the two widths of a dec.
-fn dec(rt: &(impl Print + Eprint), p: usize, q: usize) -> bool {
-    print(rt, b"dec(")
-        && say::number(rt, p)
-        && print(rt, b",")
-        && say::number(rt, q)
-        && print(rt, b")")
+fn dec(rt: &(impl Print + Eprint), p: usize, q: usize) -> Result<(), Unwritten> {
+    print(rt, b"dec(")?;
+    say::number(rt, p)?;
+    print(rt, b",")?;
+    say::number(rt, q)?;
+    print(rt, b")")
 }
 
 // A type in document 01's spelling.
-fn form(rt: &(impl Print + Eprint), t: FieldType) -> bool {
+fn form(rt: &(impl Print + Eprint), t: FieldType) -> Result<(), Unwritten> {
     match t {
         FieldType::Text(n) => wide(rt, b"text", n),
         FieldType::Int(n) => wide(rt, b"int", n),
@@ -32,25 +35,29 @@ fn form(rt: &(impl Print + Eprint), t: FieldType) -> bool {
 }
 
 // A mark, and behind `=` the fixed value.
-fn mark_words(rt: &(impl Print + Eprint), mark: Mark, fixed: &[u8]) -> bool {
+fn mark_words(rt: &(impl Print + Eprint), mark: Mark, fixed: &[u8]) -> Result<(), Unwritten> {
     match mark {
-        Mark::Bare => true,
+        Mark::Bare => Ok(()),
         Mark::Opt => print(rt, b" opt"),
-        Mark::Fixed => print(rt, b" =") && say::spelled(rt, fixed),
+        Mark::Fixed => {
+            print(rt, b" =")?;
+            say::spelled(rt, fixed)
+        }
     }
 }
 
 // The form of a dec with q places.
-fn dec_form(rt: &(impl Print + Eprint), q: usize) -> bool {
+fn dec_form(rt: &(impl Print + Eprint), q: usize) -> Result<(), Unwritten> {
     print(
         rt,
         b"whole part as int (but -0 if a later digit is not 0), point, exactly ",
-    ) && say::number(rt, q)
-        && print(rt, b" digits")
+    )?;
+    say::number(rt, q)?;
+    print(rt, b" digits")
 }
 
 // The form of a type.
-fn form_words(rt: &(impl Print + Eprint), t: FieldType) -> bool {
+fn form_words(rt: &(impl Print + Eprint), t: FieldType) -> Result<(), Unwritten> {
     match t {
         FieldType::Text(_) => print(
             rt,
@@ -67,25 +74,28 @@ fn form_words(rt: &(impl Print + Eprint), t: FieldType) -> bool {
 }
 
 // A number of things that are counted.
-fn at_most(rt: &(impl Print + Eprint), n: usize, what: &[u8]) -> bool {
-    print(rt, b"at most ") && say::number(rt, n) && print(rt, what)
+fn at_most(rt: &(impl Print + Eprint), n: usize, what: &[u8]) -> Result<(), Unwritten> {
+    print(rt, b"at most ")?;
+    say::number(rt, n)?;
+    print(rt, what)
 }
 
 // The range of a type, and of a date that was found out of it, why.
-fn range_words(rt: &(impl Print + Eprint), t: FieldType, found: &[u8]) -> bool {
+fn range_words(rt: &(impl Print + Eprint), t: FieldType, found: &[u8]) -> Result<(), Unwritten> {
     match t {
         FieldType::Text(n) => at_most(rt, n, b" characters"),
         FieldType::Int(n) => at_most(rt, n, b" digits, sign not counted"),
         FieldType::Dec(p, _) => at_most(rt, p, b" digits in all"),
         FieldType::Date => {
-            print(rt, b"a day of the Gregorian calendar, years 0001 to 9999")
-                && calendar::say_no_day(rt, found)
+            print(rt, b"a day of the Gregorian calendar, years 0001 to 9999")?;
+            calendar::say_no_day(rt, found)
         }
         FieldType::Datetime => {
             print(
                 rt,
                 b"a day of the Gregorian calendar, years 0001 to 9999, hours 00-23, minutes and seconds 00-59",
-            ) && calendar::say_no_day(rt, found)
+            )?;
+            calendar::say_no_day(rt, found)
         }
         FieldType::Bol => print(rt, b"T or F"),
         FieldType::Period => print(rt, b"1 to 50"),
@@ -94,7 +104,7 @@ fn range_words(rt: &(impl Print + Eprint), t: FieldType, found: &[u8]) -> bool {
 }
 
 // The widths that a type may have.
-pub fn width_words(rt: &(impl Print + Eprint), t: FieldType) -> bool {
+pub fn width_words(rt: &(impl Print + Eprint), t: FieldType) -> Result<(), Unwritten> {
     match t {
         FieldType::Text(_) => print(rt, b"a text's width is 1 to 512"),
         FieldType::Int(_) => print(rt, b"an int's width is 1 to 18"),
@@ -111,11 +121,22 @@ pub fn width_words(rt: &(impl Print + Eprint), t: FieldType) -> bool {
 }
 
 // The form or the range of a type, where that was refused.
-fn asked_words(rt: &(impl Print + Eprint), refusal: usize, t: FieldType, found: &[u8]) -> bool {
+fn asked_words(
+    rt: &(impl Print + Eprint),
+    refusal: usize,
+    t: FieldType,
+    found: &[u8],
+) -> Result<(), Unwritten> {
     match refusal {
-        8 => print(rt, b": ") && form_words(rt, t),
-        9 => print(rt, b": ") && range_words(rt, t, found),
-        _ => true,
+        8 => {
+            print(rt, b": ")?;
+            form_words(rt, t)
+        }
+        9 => {
+            print(rt, b": ")?;
+            range_words(rt, t, found)
+        }
+        _ => Ok(()),
     }
 }
 
@@ -127,9 +148,9 @@ pub fn right_field(
     mark: Mark,
     fixed: &[u8],
     found: &[u8],
-) -> bool {
-    print(rt, b"; the field is ")
-        && form(rt, t)
-        && mark_words(rt, mark, fixed)
-        && asked_words(rt, refusal, t, found)
+) -> Result<(), Unwritten> {
+    print(rt, b"; the field is ")?;
+    form(rt, t)?;
+    mark_words(rt, mark, fixed)?;
+    asked_words(rt, refusal, t, found)
 }

@@ -1,5 +1,5 @@
 // What is said to people about a refusal: where it is, the rule, what was found and what would be right.
-// Each sentence is one line on standard output; its function says whether all of it was written.
+// Each sentence is one line on standard output; its function fails where not all of it was written.
 #![tactic(auto)]
 
 mod ask;

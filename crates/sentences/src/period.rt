@@ -2,13 +2,13 @@
 use crate::{found, naming, say};
 use place::Refusal;
 use record::BAR;
-use stream::print;
+use stream::{Unwritten, print};
 
 // That there is no such period, and which there are.
-fn say_no_period(rt: &(impl Print + Eprint), period: usize) -> bool {
-    print(rt, b"There is no period ")
-        && say::number(rt, period)
-        && print(rt, b": periods are 1 to 50.\n")
+fn say_no_period(rt: &(impl Print + Eprint), period: usize) -> Result<(), Unwritten> {
+    print(rt, b"There is no period ")?;
+    say::number(rt, period)?;
+    print(rt, b": periods are 1 to 50.\n")
 }
 
 // The sentence on a refusal: 18 is of the period, 22 of the flow, any other of the words or the file, as the reader gives it.
@@ -18,11 +18,10 @@ pub fn about_period(
     file: &[u8],
     period: usize,
     r: Refusal,
-) -> bool {
-    let number = r.number;
-    match number {
+) -> Result<(), Unwritten> {
+    match r.number {
         18 => say_no_period(rt, period),
-        22 => naming::about_words(rt, flow, number),
+        22 => naming::about_words(rt, flow, r.number),
         _ => found::about_file(rt, flow, BAR, file, r),
     }
 }

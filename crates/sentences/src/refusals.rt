@@ -1,9 +1,9 @@
 // The rule behind each refusal, in words.
 use crate::{calendar, say};
-use stream::print;
+use stream::{Unwritten, print};
 
 // The rule that refusal n holds up, 1 to 9.
-fn early_rule(rt: &(impl Print + Eprint), n: usize) -> bool {
+fn early_rule(rt: &(impl Print + Eprint), n: usize) -> Result<(), Unwritten> {
     match n {
         1 => print(
             rt,
@@ -30,7 +30,7 @@ fn early_rule(rt: &(impl Print + Eprint), n: usize) -> bool {
 }
 
 // The rule that refusal n holds up, 10 to 22.
-fn late_rule(rt: &(impl Print + Eprint), n: usize) -> bool {
+fn late_rule(rt: &(impl Print + Eprint), n: usize) -> Result<(), Unwritten> {
     match n {
         10 => print(
             rt,
@@ -76,7 +76,7 @@ fn late_rule(rt: &(impl Print + Eprint), n: usize) -> bool {
 }
 
 // The rule that refusal n holds up.
-pub fn rule(rt: &(impl Print + Eprint), n: usize) -> bool {
+pub fn rule(rt: &(impl Print + Eprint), n: usize) -> Result<(), Unwritten> {
     if n < 10 {
         early_rule(rt, n)
     } else {
@@ -85,11 +85,13 @@ pub fn rule(rt: &(impl Print + Eprint), n: usize) -> bool {
 }
 
 // The rule of a refusal on a line of its own; that of ranges with the calendar's.
-pub fn explain(rt: &(impl Print + Eprint), n: usize) -> bool {
-    print(rt, b"refusal ")
-        && say::number(rt, n)
-        && print(rt, b": ")
-        && rule(rt, n)
-        && (n != 9 || calendar::say_months(rt))
-        && print(rt, b".\n")
+pub fn explain(rt: &(impl Print + Eprint), n: usize) -> Result<(), Unwritten> {
+    print(rt, b"refusal ")?;
+    say::number(rt, n)?;
+    print(rt, b": ")?;
+    rule(rt, n)?;
+    if n == 9 {
+        calendar::say_months(rt)?;
+    }
+    print(rt, b".\n")
 }

@@ -18,15 +18,17 @@ use Rattle.field.specs.Types.{form, range, value_of, is_null, text_form, bol_for
 use Rattle.field.specs.Judge.{may_be_empty, meets_mark, field_answer, filled, refusal_of}
 use Rattle.field.specs.declared.FieldType.{FieldType}
 use Rattle.field.specs.declared.FieldType.TheVariants as types
-use Rattle.field.specs.declared.FieldAnswer.{FieldAnswer}
-use Rattle.field.specs.declared.FieldAnswer.TheVariants.{Refused, Empty}
+use Rattle.field.specs.declared.Content.{Content}
+use Rattle.field.specs.declared.Content.TheVariants.{Empty}
+use Rattle.field.specs.declared.Wrong.{Wrong}
+use Rattle.field.specs.declared.Wrong.TheVariants.{Missing, Form, Range, Fixed}
 use Rattle.number.proofs.Digits.{and_left, and_right, all_append, plain_digits}
 use Rattle.layout.specs.Layout.{Rule, Layout, row}
 use Rattle.layout.proofs.Names.{found_row}
 use Rattle.flow.specs.Proper.{ProperFooter}
-use Rattle.fault.specs.Fields.{field_fault, fields_fault}
+use Rattle.std.specs.Prelude.{Result, Ok, Err}
+use Rattle.fault.specs.Fields.{fine, field_fault, fields_fault}
 use Rattle.fault.specs.Record.{kind_of}
-use Rattle.fault.specs.declared.Check.TheVariants.{Fine}
 use Rattle.judge.proofs.RightEach.{Each, each_first, each_rest}
 use Rattle.judge.proofs.RightFields.{FineRecord, must_fine}
 use Rattle.sheet.proofs.Holding.{none_passing, fields_hold}
@@ -37,8 +39,8 @@ abbrev pub text_record : List ℕ → Bool
 text_record r = all (all is_text) (fields bar r)
 
 -- a filled field has the form of its type, and any other is empty
-form_go : (nul emp may form range mark : Bool) (v : FieldAnswer)
-    → refusal_of (cond nul (must emp (Refused 10) Empty) (cond emp (must may (Refused 7) Empty) (must form (Refused 8) (must range (Refused 9) (must mark (Refused 10) v))))) ≡ 0
+form_go : (nul emp may form range mark : Bool) (v : Result Content Wrong)
+    → refusal_of (cond nul (must emp (Err Fixed) (Ok Empty)) (cond emp (must may (Err Missing) (Ok Empty)) (must form (Err Form) (must range (Err Range) (must mark (Err Fixed) v))))) ≡ 0
     → (form || emp) ≡ true
 form_go nul true may form range mark v e = or-true form
 form_go true false may form range mark v e = absurd (omega arith)
@@ -49,7 +51,7 @@ formed : (rule : Rule) (s : List ℕ) → field_fault rule s ≡ 0 → (form rul
 unfolding field_fault field_answer filled
 formed rule s e =
     form_go (is_null rule.type) (eqb (length s) 0) (may_be_empty rule.mark) (form rule.type s) (range rule.type s) (meets_mark rule.mark s)
-    (value_of rule.type s) e
+    (Ok (value_of rule.type s)) e
 
 digit_go : (a b d g : Bool) → d ≡ true → (a || b || d || g) ≡ true
 digit_go true b d g e = refl
@@ -139,7 +141,7 @@ field_go t s false false e f h = absurd (false≢true h)
 field_text : (rule : Rule) (s : List ℕ) → field_fault rule s ≡ 0 → all is_text s ≡ true
 field_text rule s e = field_go rule.type s (form rule.type s) (eqb (length s) 0) refl refl (formed rule s e)
 
-typed_text : (rules : List Rule) (xs : List (List ℕ)) (f : ℕ) → length xs ≡ length rules → fields_fault rules xs f ≡ Fine → all (all is_text) xs ≡ true
+typed_text : (rules : List Rule) (xs : List (List ℕ)) (f : ℕ) → length xs ≡ length rules → fields_fault rules xs f ≡ fine → all (all is_text) xs ≡ true
 unfolding fields_fault
 typed_text rules [] f e h = refl
 typed_text [] (x ∷ xs) f e h = absurd (omega arith)

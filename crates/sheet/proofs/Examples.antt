@@ -8,6 +8,7 @@ use native.Mathlib.Omega.{arith}
 use lib.Dec.{ltb, lit≤}
 use lib.ListN.{length}
 use borrow.Author.Tests.{ltb-true}
+use Rattle.std.specs.Prelude.{Err}
 use Rattle.text.specs.Characters.{all, bytes, is_digit, is_text}
 use Rattle.record.specs.Records.{joined, onto, records, fields, field, extent, turned, holds, Bytes, bar}
 use Rattle.checksum.specs.Checksum.{words, add_record, checksum, checksum_of}
@@ -27,12 +28,10 @@ use Rattle.fault.specs.Fields.{field_fault, fields_fault}
 use Rattle.fault.specs.Record.{place_fault, shape_fault, key_fault, footer_fault, kind_fault}
 use Rattle.judge.specs.Record.{last_kind, key_with, key_before, fault}
 use Rattle.place.specs.Places.{field_start, place_at, refusal}
-use Rattle.judge.specs.File.{checked_from, ended, judged_by, judged_for, judged, accepted}
-use Rattle.judge.specs.declared.Verdict.TheVariants as verdicts
+use Rattle.judge.specs.File.{unplaced, checked_from, ended, judged_by, judged_for, judged, accepted}
 use Rattle.sheet.specs.Sheets.{tab, footer, made, bar_line, but_last, sheet_of}
-use Rattle.sheet.specs.Write.{written_by, written}
+use Rattle.sheet.specs.Write.{transferred, written_by, written}
 use Rattle.sheet.specs.Code.{lines_judged}
-use Rattle.sheet.specs.declared.Transfer.TheVariants.{Done, Refused}
 use Rattle.sheet.proofs.Verdicts.{refused_is}
 use Rattle.sheet.proofs.RoundTrip.{writer_takes}
 
@@ -86,7 +85,7 @@ unfolding joined onto records fields field turned words add_record checksum minu
 example_accepted = refl
 
 -- with room for its 88 bytes it is written
-pub example_written : written (asked P0138001) example_sheet 88 ≡ Done 4 88
+pub example_written : written (asked P0138001) example_sheet 88 ≡ transferred 4 88
 unfolding turned joined holds
 example_written =
     let size : length (made example_sheet) ≡ 88 = ap length example_made in
@@ -101,21 +100,21 @@ example_written =
     }
 
 -- an empty sheet is 5 at record 1, the made footer, whose place is the sheet's length
-pub empty_sheet : (room : ℕ) → written (asked P0138001) [] room ≡ Refused (refusal 5 1 1 0)
+pub empty_sheet : (room : ℕ) → written (asked P0138001) [] room ≡ Err (refusal 5 1 1 0)
 unfolding joined onto records fields field turned holds words add_record checksum checksum_of minus unsigned plain int_form int_value dec_form dec_value spelled decimal_in decimal leap days_in is_day is_date is_time text_form form range value_of filled field_answer among find flow_number is_digit is_text field_fault fields_fault last_kind key_with key_before place_fault shape_fault key_fault footer_fault kind_fault fault checked_from ended judged_by place_at footer made asked usual written_by written
 empty_sheet room = refl
 
 -- a sheet without its last line feed is 15 at its last line
-pub open_sheet : (room : ℕ) → written (asked P0138001) (sheet (zhd ∷ sub ∷ []) ++ turned bar tab (bytes ta2)) room ≡ Refused (refusal 15 3 0 61)
+pub open_sheet : (room : ℕ) → written (asked P0138001) (sheet (zhd ∷ sub ∷ []) ++ turned bar tab (bytes ta2)) room ≡ Err (refusal 15 3 0 61)
 unfolding written written_by asked usual flow_number holds records onto joined turned fields extent field_start place_at
 open_sheet room = refl
 
 -- a bar is 16 at its line, also in a last line that has no line feed
-pub bar_sheet : (room : ℕ) → written (asked P0138001) (sheet (zhd ∷ []) ++ lines (sub ∷ ta2 ∷ [])) room ≡ Refused (refusal 16 2 0 42)
+pub bar_sheet : (room : ℕ) → written (asked P0138001) (sheet (zhd ∷ []) ++ lines (sub ∷ ta2 ∷ [])) room ≡ Err (refusal 16 2 0 42)
 unfolding written written_by asked usual flow_number holds records onto joined turned bar_line fields extent field_start place_at
 bar_sheet room = refl
 
-pub open_bar_sheet : (room : ℕ) → written (asked P0138001) (sheet (zhd ∷ []) ++ bytes sub) room ≡ Refused (refusal 16 2 0 42)
+pub open_bar_sheet : (room : ℕ) → written (asked P0138001) (sheet (zhd ∷ []) ++ bytes sub) room ≡ Err (refusal 16 2 0 42)
 unfolding written written_by asked usual flow_number holds records onto joined turned bar_line fields extent field_start place_at
 open_bar_sheet room = refl
 
@@ -128,11 +127,11 @@ bytes_by_lem (b ∷ s) e (suc i) = bytes_by_lem s (and_right (ltb b 256) (all (�
 abbrev footed_sheet : List ℕ
 footed_sheet = sheet (zhd ∷ sub ∷ ta2 ∷ "ZPT|4|812996689" ∷ [])
 
-footed_lines : lines_judged (layout_for p0138) (records footed_sheet) ≡ verdicts.Refused 5 5 1
+footed_lines : lines_judged (layout_for p0138) (records footed_sheet) ≡ Err (unplaced 5 5 1)
 unfolding joined onto records fields field turned words add_record checksum minus unsigned plain int_form int_value dec_form dec_value spelled leap days_in is_day is_date is_time text_form form range value_of filled field_answer among find flow_number is_digit is_text field_fault fields_fault last_kind key_with key_before place_fault shape_fault key_fault footer_fault kind_fault fault checked_from lines_judged
 footed_lines = refl
 
-pub footed_sheet_lem : (room : ℕ) → written (asked P0138001) footed_sheet room ≡ Refused (refusal 5 5 1 88)
+pub footed_sheet_lem : (room : ℕ) → written (asked P0138001) footed_sheet room ≡ Err (refusal 5 5 1 88)
 unfolding written asked usual flow_number turned joined holds records onto place_at
 footed_sheet_lem room =
     refused_is (layout_for p0138) footed_sheet (lit≤ tt) refl (held_proper 5).footer refl (bytes_by_lem footed_sheet refl) 5 5 1 room footed_lines

@@ -23,11 +23,9 @@ use Rattle.layout.specs.Layout.{KindRow, Layout, row, blank, may_follow, kind_na
 use Rattle.flow.specs.Letters.{ZPT}
 use Rattle.flow.specs.Publication.{int}
 use Rattle.flow.specs.Proper.{last_row, ProperFooter}
-use Rattle.fault.specs.Fields.{also, field_fault, fields_fault}
+use Rattle.fault.specs.Fields.{Check, fine, fault as wrong, also, field_fault, fields_fault}
 use Rattle.fault.specs.Record.{kind_of, place_fault, shape_fault, key_fault, footer_fault, kind_fault}
 use Rattle.judge.specs.Record.{last_kind, sum_of, fault}
-use Rattle.fault.specs.declared.Check.{Check}
-use Rattle.fault.specs.declared.Check.TheVariants.{Fine, Fault}
 use Rattle.sheet.specs.Sheets.{footer}
 use Rattle.sheet.proofs.Holding.{none_append, none_passing}
 
@@ -105,31 +103,31 @@ module _ (l : Layout) (p : ProperFooter l) (n sum : ℕ) (few : n < 10 ^ 10) (sm
   pub foot_last : is_footer l (last_row l) ≡ true
   foot_last = rw (le-leb 1 (last_row l) p.some, eq-eqb (last_row l) (last_row l) refl)
 
-  place : (last : ℕ) → place_fault l last (last_row l) ≡ must (may_follow l last (last_row l)) (Fault 5 1) Fine
+  place : (last : ℕ) → place_fault l last (last_row l) ≡ must (may_follow l last (last_row l)) (wrong 5 1) fine
   unfolding place_fault
   place last = rw (ne_eqb (last_row l) 0 (λ e. omega (arith, p.some)))
 
-  shaped : shape_fault bar (row l (last_row l)).rules foot ≡ Fine
+  shaped : shape_fault bar (row l (last_row l)).rules foot ≡ fine
   unfolding shape_fault fields_fault
   shaped = rw (foot_fields n sum, p.rules, int_fine n few, int_fine sum small)
 
-  keyed : (old key : List ℕ) → key_fault l (last_row l) old key ≡ Fine
+  keyed : (old key : List ℕ) → key_fault l (last_row l) old key ≡ fine
   unfolding key_fault
   keyed old key = rw p.key
 
-  summed : (m : ℕ) → n ≡ m + 1 → footer_fault bar l m sum (last_row l) foot ≡ Fine
+  summed : (m : ℕ) → n ≡ m + 1 → footer_fault bar l m sum (last_row l) foot ≡ fine
   unfolding footer_fault
   summed m e =
       rw (foot_last, field_number bar 1 foot, field_number bar 2 foot, foot_fields n sum, ← e, decimal_spelled n few, decimal_spelled sum small)
 
-  only : (t : Bool) (a b c : Check) → a ≡ Fine → b ≡ Fine → c ≡ Fine
-      → also (must t (Fault 5 1) Fine) (also a (also b c)) ≡ must t (Fault 5 1) Fine
+  only : (t : Bool) (a b c : Check) → a ≡ fine → b ≡ fine → c ≡ fine
+      → also (must t (wrong 5 1) fine) (also a (also b c)) ≡ must t (wrong 5 1) fine
   only true a b c e f g = rw (e, f, g)
   only false a b c e f g = refl
 
   -- a footer that tells the records before it is right, if the grammar has it here
   pub foot_fault : (before : List (List ℕ)) → n ≡ length before + 1 → sum ≡ sum_of bar before
-      → fault bar l before foot ≡ must (may_follow l (last_kind bar l before) (last_row l)) (Fault 5 1) Fine
+      → fault bar l before foot ≡ must (may_follow l (last_kind bar l before) (last_row l)) (wrong 5 1) fine
   unfolding fault kind_fault
   foot_fault before e f =
       rw (le-leb (length foot) 512 (omega (arith, foot_short)), foot_kind, ← f, place (last_kind bar l before))

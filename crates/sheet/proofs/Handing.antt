@@ -7,6 +7,7 @@ use native.Mathlib.Omega.{arith}
 use lib.ListN.{length, take, drop}
 use lib.Seq.{length-take-le}
 use borrow.Author.Tests.{le-leb, lt-leb}
+use Rattle.std.specs.Prelude.{Result, Ok, Err}
 use Rattle.record.specs.Records.{records, turned, joined, bar}
 use Rattle.record.proofs.Turned.{turned_length}
 use Rattle.checksum.specs.Checksum.{checksum_of}
@@ -17,24 +18,20 @@ use Rattle.flow.specs.Publication.{Flow, layout_for}
 use Rattle.flow.specs.Editions.{Asked, a_flow, no_flow}
 use Rattle.judge.specs.File.{judged_for, judged}
 use Rattle.judge.specs.File as judging
-use Rattle.judge.specs.declared.Judged.{Judged}
-use Rattle.judge.specs.declared.Judged.TheVariants as files
 use Rattle.judge.proofs.Demand2.{one_reply}
 use Rattle.sheet.specs.Sheets.{tab, footer, made, but_last, sheet_of}
-use Rattle.sheet.specs.Write.{as_judged, fitted, written_by, written, paper, Handed, Wrote}
+use Rattle.sheet.specs.Write.{Transfer, transferred, as_judged, fitted, written_by, written, paper, Handed, Wrote}
 use Rattle.sheet.specs.Read.{read_to, Read}
 use Rattle.sheet.specs.Code.{Totals, Taken, put}
-use Rattle.sheet.specs.declared.Transfer.{Transfer}
-use Rattle.sheet.specs.declared.Transfer.TheVariants.{Done, Refused}
 use Rattle.sheet.proofs.Putting.{grown}
 use Rattle.sheet.proofs.MadeFiles.{made_length}
 
 -- the room and the result
 module _ (room : ℕ) (result : List ℕ) (n : ℕ) where
-  pub fits_not : room < length result → fitted room result n ≡ Refused (whole 17)
+  pub fits_not : room < length result → fitted room result n ≡ Err (whole 17)
   fits_not h = rw (lt-leb (length result) room h)
 
-  pub fits : length result ≤ room → fitted room result n ≡ Done n (length result)
+  pub fits : length result ≤ room → fitted room result n ≡ transferred n (length result)
   fits h = rw (le-leb (length result) room h)
 
 -- the writer, by a layout
@@ -42,20 +39,20 @@ module _ (l : Layout) (sheet old : List ℕ) where
   abbrev WroteBy : Transfer → List ℕ → Type 0
   WroteBy answer new = Handed (written_by l sheet (length old)) (made sheet) answer old new
 
-  pub wrote_refused : {r q : Refusal} → r ≡ q → written_by l sheet (length old) ≡ Refused q → WroteBy (Refused r) old
-  wrote_refused z e = record { says = ap (λ (x : Refusal). paper (Refused x)) z ∙ ap paper (sym e); leaves = refl }
+  pub wrote_refused : {r q : Refusal} → r ≡ q → written_by l sheet (length old) ≡ Err q → WroteBy (Err r) old
+  wrote_refused z e = record { says = ap (λ (x : Refusal). paper (Err x)) z ∙ ap paper (sym e); leaves = refl }
 
   module _ (n sum b : ℕ) (t : Taken l sheet n sum) (size : b ≡ length (made sheet)) where
-    pub wrote_no_room : {r : Refusal} → r ≡ whole 17 → length old < b → WroteBy (Refused r) old
+    pub wrote_no_room : {r : Refusal} → r ≡ whole 17 → length old < b → WroteBy (Err r) old
     wrote_no_room z h = wrote_refused z (t.says (length old) ∙ fits_not (length old) (made sheet) n (rw size at h))
 
-    pub wrote_done : (new : List ℕ) → b ≤ length old → new ≡ made sheet ++ drop b old → WroteBy (Done n b) new
+    pub wrote_done : (new : List ℕ) → b ≤ length old → new ≡ made sheet ++ drop b old → WroteBy (transferred n b) new
     wrote_done new h e =
-        record { says = ap (λ (k : ℕ). paper (Done n k)) size ∙ ap paper (sym (t.says (length old) ∙ fits (length old) (made sheet) n (rw size at h))); leaves = e }
+        record { says = ap (λ (k : ℕ). paper (transferred n k)) size ∙ ap paper (sym (t.says (length old) ∙ fits (length old) (made sheet) n (rw size at h))); leaves = e }
 
 -- and for what is asked
 module _ (a : Asked) (sheet old : List ℕ) where
-  pub wrote_no_flow : (r : Refusal) → no_flow r ≡ a → Wrote a sheet (Refused r) old old
+  pub wrote_no_flow : (r : Refusal) → no_flow r ≡ a → Wrote a sheet (Err r) old old
   unfolding written
   wrote_no_flow r e = record { says = ap (λ (x : Asked). paper (written x sheet (length old))) e; leaves = refl }
 
@@ -94,12 +91,12 @@ module _ (sheet old : List ℕ) (n sum : ℕ) (t : Totals sheet n sum) where
 
 -- the reader
 module _ (a : Asked) (f old : List ℕ) where
-  read_is : (v : Judged) → judging.paper v ≡ judged a f → paper (as_judged v (fitted (length old) (sheet_of f))) ≡ paper (read_to a f (length old))
+  read_is : (v : Result ℕ Refusal) → judging.paper v ≡ judged a f → paper (as_judged v (fitted (length old) (sheet_of f))) ≡ paper (read_to a f (length old))
   unfolding read_to judged
-  read_is v e = ap (λ (w : Judged). paper (as_judged w (fitted (length old) (sheet_of f)))) (one_reply v (judged_for a f) e)
+  read_is v e = ap (λ (w : Result ℕ Refusal). paper (as_judged w (fitted (length old) (sheet_of f)))) (one_reply v (judged_for a f) e)
 
-  pub read_refused : (r : Refusal) → judging.paper (files.Refused r) ≡ judged a f → Read a f (Refused r) old old
-  read_refused r e = record { says = read_is (files.Refused r) e; leaves = refl }
+  pub read_refused : (r : Refusal) → judging.paper (Err r) ≡ judged a f → Read a f (Err r) old old
+  read_refused r e = record { says = read_is (Err r) e; leaves = refl }
 
   -- the last record starts at b
   module _ (n b : ℕ) (accepts : judging.accepted n ≡ judged a f) (within : b ≤ length f) (front : joined (but_last (records f)) ≡ take b f) where
@@ -110,23 +107,23 @@ module _ (a : Asked) (f old : List ℕ) where
     size : length (sheet_of f) ≡ b
     size = ap length sheet_is ∙ turned_length bar tab (take b f) ∙ length-take-le b f within
 
-    pub read_no_room : {r : Refusal} → r ≡ whole 17 → length old < b → Read a f (Refused r) old old
+    pub read_no_room : {r : Refusal} → r ≡ whole 17 → length old < b → Read a f (Err r) old old
     read_no_room z h =
         let over : length old < length (sheet_of f) = omega (arith, size) in
         record {
           says =
-              ap (λ (x : Refusal). paper (Refused x)) z ∙ ap paper (sym (fits_not (length old) (sheet_of f) n over)) ∙ read_is (files.Accepted n) accepts;
+              ap (λ (x : Refusal). paper (Err x)) z ∙ ap paper (sym (fits_not (length old) (sheet_of f) n over)) ∙ read_is (Ok n) accepts;
           leaves = refl;
         }
 
-    pub read_done : (new : List ℕ) → b ≤ length old → new ≡ put old 0 (turned bar tab (take b f)) → Read a f (Done n b) old new
+    pub read_done : (new : List ℕ) → b ≤ length old → new ≡ put old 0 (turned bar tab (take b f)) → Read a f (transferred n b) old new
     read_done new h e =
         let room : length (sheet_of f) ≤ length old = omega (arith, size) in
         let put-so : new ≡ sheet_of f ++ drop b old =
         e ∙ ap (put old 0) (sym sheet_is) ∙ ap (λ (k : ℕ). sheet_of f ++ drop k old) (zero-add (length (sheet_of f)) ∙ size) in
         record {
           says =
-              ap (λ (k : ℕ). paper (Done n k)) (sym size) ∙ ap paper (sym (fits (length old) (sheet_of f) n room))
-              ∙ read_is (files.Accepted n) accepts;
+              ap (λ (k : ℕ). paper (transferred n k)) (sym size) ∙ ap paper (sym (fits (length old) (sheet_of f) n room))
+              ∙ read_is (Ok n) accepts;
           leaves = put-so;
         }

@@ -13,10 +13,9 @@ use Rattle.layout.specs.Layout.{Layout, row, kind_named}
 use Rattle.fault.specs.Record.{kind_of, shape_fault, footer_fault, kind_fault}
 use Rattle.judge.specs.Record.{last_kind, key_with, key_before, sum_of, fault}
 use Rattle.judge.specs.File.{at_record, checked_from, finish}
-use Rattle.fault.specs.declared.Check.{Check}
-use Rattle.fault.specs.declared.Check.TheVariants.{Fine, Fault}
-use Rattle.judge.specs.declared.Verdict.{Verdict}
-use Rattle.judge.specs.declared.Verdict.TheVariants.{Accepted}
+use Rattle.fault.specs.Fields.{Check}
+use Rattle.judge.specs.declared.Unplaced.{Unplaced}
+use Rattle.std.specs.Prelude.{Result, Ok, Err}
 use Rattle.sheet.specs.Sheets.{tab}
 use Rattle.sheet.proofs.Holding.{none_snoc}
 
@@ -82,7 +81,7 @@ module _ (l : Layout) where
   pub same_checked : (before lines : List (List ℕ)) → some_holds bar before ≡ false → some_holds bar lines ≡ false
       → checked_from bar l (map (barred tab) before) (map (barred tab) lines) ≡ checked_from tab l before lines
   unfolding checked_from some_holds
-  same_checked before [] h k = ap Accepted (length-map before (barred tab))
+  same_checked before [] h k = ap Ok (length-map before (barred tab))
   same_checked before (r ∷ lines) h k =
       let p = neither (holds bar r) (some_holds bar lines) k in
       let after : checked_from bar l (map (barred tab) before ++ barred tab r ∷ []) (map (barred tab) lines) ≡ checked_from tab l (before ++ r ∷ []) lines =
@@ -93,12 +92,12 @@ module _ (l : Layout) where
 -- with one record more at the end
 module _ (sep : ℕ) (l : Layout) (r : List ℕ) where
   -- what is said at a record that stands after these
-  abbrev pub at_end : List (List ℕ) → Verdict
-  at_end before = at_record (length before + 1) (fault sep l before r) (Accepted (length before + 1))
+  abbrev pub at_end : List (List ℕ) → Result ℕ Unplaced
+  at_end before = at_record (length before + 1) (fault sep l before r) (Ok (length before + 1))
 
-  turn : (c : Check) (n : ℕ) (v w e : Verdict) → v ≡ finish w e → at_record n c v ≡ finish (at_record n c w) e
-  turn Fine n v w e q = q
-  turn (Fault number f) n v w e q = refl
+  turn : (c : Check) (n : ℕ) (v w e : Result ℕ Unplaced) → v ≡ finish w e → at_record n c v ≡ finish (at_record n c w) e
+  turn (Ok nothing) n v w e q = q
+  turn (Err x) n v w e q = refl
 
   pub checked_snoc : (before rs : List (List ℕ)) → checked_from sep l before (rs ++ r ∷ []) ≡ finish (checked_from sep l before rs) (at_end (before ++ rs))
   unfolding checked_from

@@ -1,35 +1,26 @@
 -- Laws of the loops that look through a sheet. Assumes nothing.
-use Prim.Native.Nat.{ℕ, suc, ◌+◌, ◌≤◌, ◌<◌}
-use mathlib.Core.Path.{◌≡◌, refl, sym, ap}
+use Prim.Native.Nat.{ℕ, ◌+◌}
+use mathlib.Core.Path.{◌≡◌, refl, ap}
 use mathlib.Core.Bool.{Bool, true, false, ◌||◌}
 use mathlib.Core.List.{List, [], ◌∷◌}
 use native.Mathlib.Numerals.{add-one}
 use native.Mathlib.Omega.{arith}
 use lib.Dec.{eqb}
-use lib.ListN.{length, drop, get_or, drop_of_length-le}
-use lib.Seq.{drop-cons}
-use Rattle.record.specs.Records.{holds, bar}
+use lib.ListN.{length, drop}
+use Rattle.std.specs.List.{list_any}
+use Rattle.std.specs.Iterator.{Yields, Drains}
+use Rattle.record.specs.Records.{records, holds, bar}
+use Rattle.record.specs.Step.{RecordYielded}
+use Rattle.record.specs.declared.Span.{Span}
+use Rattle.record.specs.declared.RecordSpans.{RecordSpans}
 use Rattle.sheet.specs.Sheets.{bar_line}
 use Rattle.sheet.specs.Write.{lines_ended}
 
--- a byte looked for: the one at i, then those after it
-module _ (b : ℕ) (s : List ℕ) (i : ℕ) (found : Bool) where
-  swap : (x y z : Bool) → (x || y || z) ≡ (y || (x || z))
-  swap true true z = refl
-  swap true false z = refl
-  swap false y z = refl
-
-  pub seen_next : i < length s → (eqb (get_or s i 0) b || found || holds b (drop (i + 1) s)) ≡ (found || holds b (drop i s))
-  unfolding holds
-  seen_next h = rw (add-one, drop-cons s i 0 h) (swap (eqb (get_or s i 0) b) found (holds b (drop (suc i) s)))
-
-  or_none : (x : Bool) → (x || false) ≡ x
-  or_none true = refl
-  or_none false = refl
-
-  pub seen_end : length s ≤ i → found ≡ (found || holds b (drop i s))
-  unfolding holds
-  seen_end h = rw (drop_of_length-le s {i = i} h) (sym (or_none found))
+-- a byte that equals one of them is held by them
+pub holds_any : (b : ℕ) (s : List ℕ) → list_any (λ y. eqb y b) s ≡ holds b s
+unfolding holds
+holds_any b [] = refl
+holds_any b (a ∷ s) = ap (λ (x : Bool). eqb a b || x) (holds_any b s)
 
 -- lines passed, and those that are left
 module _ (passed : ℕ) (line : List ℕ) (lines left : List (List ℕ)) (splits : left ≡ line ∷ lines) where
@@ -41,8 +32,21 @@ module _ (passed : ℕ) (line : List ℕ) (lines left : List (List ℕ)) (splits
   unfolding bar_line
   bar_next e = rw (splits, e, add-one (passed + 1))
 
-  pub count_next : passed + 1 + length lines ≡ passed + length left
-  count_next = omega (arith, ap length splits)
+-- calls of next passed so many lines of those from a place on
+passed_lines : (s t : RecordSpans) (xs : List Span) → Yields RecordYielded s xs t
+    → length (records (drop s.at s.bytes.now)) ≡ length xs + length (records (drop t.at t.bytes.now))
+passed_lines s t [] y =
+    let same : length (records (drop s.at s.bytes.now)) ≡ length (records (drop t.at t.bytes.now)) = ap (λ (x : RecordSpans). length (records (drop x.at x.bytes.now))) y in
+    omega (arith, same)
+passed_lines s t (x ∷ xs) (j, (same, is), ys) =
+    let rest : length (records (drop j.at s.bytes.now)) ≡ length xs + length (records (drop t.at t.bytes.now)) = rw same at (passed_lines j t xs ys) in
+    omega (arith, ap length is.splits, rest)
+
+pub lines_counted : (sheet : List ℕ) (s : RecordSpans) (n : ℕ) → s.bytes.now ≡ sheet → s.at ≡ 0
+    → ((xs : List Span) × Drains RecordYielded s xs × (n ≡ length xs)) → n ≡ length (records sheet)
+lines_counted sheet s n b z (xs, (u, (t, ys, (same, none))), e) =
+    let all : length (records sheet) ≡ length xs + length (records (drop t.at t.bytes.now)) = rw (z, b) at (passed_lines s t xs ys) in
+    omega (arith, all, ap length none, e)
 
 pub bar_none : (i : ℕ) (left : List (List ℕ)) → left ≡ [] → 0 ≡ bar_line i left
 unfolding bar_line

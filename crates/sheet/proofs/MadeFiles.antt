@@ -15,10 +15,10 @@ use Rattle.record.proofs.Cutting.{records_joined, records_free, records_le, join
 use Rattle.layout.specs.Layout.{Layout, may_follow}
 use Rattle.flow.specs.Proper.{last_row, ProperFooter}
 use Rattle.judge.specs.Record.{last_kind, sum_of, fault}
-use Rattle.judge.specs.File.{at_record, checked_from, ends_in_feed, ended, finish, judged_by}
-use Rattle.fault.specs.declared.Check.TheVariants.{Fine, Fault}
-use Rattle.judge.specs.declared.Verdict.{Verdict}
-use Rattle.judge.specs.declared.Verdict.TheVariants.{Accepted, Refused}
+use Rattle.judge.specs.File.{unplaced, at_record, checked_from, ends_in_feed, ended, finish, judged_by}
+use Rattle.fault.specs.Fields.{fine, fault as wrong}
+use Rattle.judge.specs.declared.Unplaced.{Unplaced}
+use Rattle.std.specs.Prelude.{Result, Ok, Err}
 use Rattle.judge.proofs.Files.{last_snoc}
 use Rattle.sheet.specs.Sheets.{tab, footer, made}
 use Rattle.sheet.specs.Write.{lines_ended}
@@ -113,19 +113,19 @@ module _ (l : Layout) (proper : ProperFooter l) (sheet : List ℕ) (short : leng
   bars_count : length (bars sheet) ≡ length (records sheet)
   bars_count = length-map (records sheet) (barred tab)
 
-  fault_made : fault bar l (bars sheet) (foot sheet) ≡ must (may_follow l (last_kind tab l (lines sheet)) (last_row l)) (Fault 5 1) Fine
+  fault_made : fault bar l (bars sheet) (foot sheet) ≡ must (may_follow l (last_kind tab l (lines sheet)) (last_row l)) (wrong 5 1) fine
   fault_made =
       foot_fault l proper n sum few sum_few (bars sheet) (ap (λ (m : ℕ). m + 1) (sym bars_count)) (sheet_sum sheet ∙ sym (same_sum l (lines sheet)))
-      ∙ ap (λ (k : ℕ). must (may_follow l k (last_row l)) (Fault 5 1) Fine) (same_last l (lines sheet) lines_free)
+      ∙ ap (λ (k : ℕ). must (may_follow l k (last_row l)) (wrong 5 1) fine) (same_last l (lines sheet) lines_free)
 
   checked_made : checked_from bar l [] (records (made sheet))
-      ≡ finish (checked_from tab l [] (lines sheet)) (at_record n (must (may_follow l (last_kind tab l (lines sheet)) (last_row l)) (Fault 5 1) Fine) (Accepted n))
+      ≡ finish (checked_from tab l [] (lines sheet)) (at_record n (must (may_follow l (last_kind tab l (lines sheet)) (last_row l)) (wrong 5 1) fine) (Ok n))
   unfolding some_holds
   checked_made =
       ap (checked_from bar l []) (records_made sheet ends) ∙ checked_snoc bar l (foot sheet) [] (bars sheet)
       ∙ rw (bars_count, fault_made, same_checked l [] (lines sheet) refl lines_free)
 
-  end_made : ended l (length (records (made sheet))) (last_kind bar l (records (made sheet))) (ends_in_feed (made sheet)) ≡ Accepted n
+  end_made : ended l (length (records (made sheet))) (last_kind bar l (records (made sheet))) (ends_in_feed (made sheet)) ≡ Ok n
   unfolding ended
   end_made =
       let many : length (records (made sheet)) ≡ n =
@@ -134,10 +134,10 @@ module _ (l : Layout) (proper : ProperFooter l) (sheet : List ℕ) (short : leng
       ap (last_kind bar l) (records_made sheet ends) ∙ last_snoc bar l (bars sheet) (foot sheet) ∙ foot_kind l proper n sum few sum_few in
       rw (many, last, made_ends sheet, foot_last l proper n sum few sum_few, or-true (not l.feed))
 
-  settled : (v : Verdict) (t : Bool) (m : ℕ) → finish (finish v (at_record m (must t (Fault 5 1) Fine) (Accepted m))) (Accepted m) ≡ finish v (must t (Refused 5 m 1) (Accepted m))
-  settled (Accepted k) true m = refl
-  settled (Accepted k) false m = refl
-  settled (Refused number r f) t m = refl
+  settled : (v : Result ℕ Unplaced) (t : Bool) (m : ℕ) → finish (finish v (at_record m (must t (wrong 5 1) fine) (Ok m))) (Ok m) ≡ finish v (must t (Err (unplaced 5 m 1)) (Ok m))
+  settled (Ok k) true m = refl
+  settled (Ok k) false m = refl
+  settled (Err x) t m = refl
 
   pub made_judged : judged_by l (made sheet) ≡ lines_judged l (records sheet)
   unfolding judged_by lines_judged

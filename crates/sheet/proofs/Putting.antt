@@ -6,7 +6,7 @@ use native.Mathlib.Nat.{add-zero}
 use native.Mathlib.Numerals.{add-one}
 use native.Mathlib.Omega.{arith}
 use lib.ListN.{length, take, drop, set, length-append, length-drop, take-append-drop}
-use lib.Seq.{length-take-le, take_at, drop_at, drop-drop, append_snoc, set_split, set-append_left, take-set-lt, take-suc-set, sets-eq}
+use lib.Seq.{length-take-le, take_at, drop_at, drop-drop, append_snoc, set_split, set-append_left, take-set-lt, take-suc-set}
 use Rattle.sheet.specs.Code.{put}
 
 module _ (old : List ℕ) where
@@ -58,12 +58,3 @@ module _ (old new : List ℕ) (at : ℕ) (x : List ℕ) (fits : at + length x �
 
   pub grown_byte : (e b : ℕ) → e ≡ at + length x → e < length old → set new e b ≡ put old at (x ++ b ∷ [])
   grown_byte e b q h = put_one new e b (omega (arith, grown_length)) ∙ grown e (b ∷ []) q
-
--- four bytes, one after the other
-pub put_four : (old : List ℕ) (at a b c d : ℕ) → at + 4 ≤ length old
-    → set (set (set (set old at a) (at + 1) b) (at + 2) c) (at + 3) d ≡ put old at (a ∷ b ∷ c ∷ d ∷ [])
-put_four old at a b c d h =
-    let x : at + 1 ≡ suc at = omega arith in
-    let y : at + 2 ≡ suc (suc at) = omega arith in
-    let z : at + 3 ≡ suc (suc (suc at)) = omega arith in
-    rw (x, y, z) (sets-eq (a ∷ b ∷ c ∷ d ∷ []) old at h)

@@ -18,13 +18,11 @@ use Rattle.layout.specs.Layout.{Layout, may_follow}
 use Rattle.flow.specs.Publication.{Flow, layout_for}
 use Rattle.flow.specs.Editions.{a_flow}
 use Rattle.flow.specs.Proper.{last_row, ProperFooter, Proper}
-use Rattle.fault.specs.declared.Check.{Check}
-use Rattle.fault.specs.declared.Check.TheVariants.{Fine, Fault}
+use Rattle.fault.specs.Fields.{Check}
 use Rattle.judge.specs.Record.{last_kind, fault}
-use Rattle.judge.specs.File.{at_record, checked_from, finish, judged_by, with_place, judged_for, paper, judged}
-use Rattle.judge.specs.declared.Verdict.{Verdict}
-use Rattle.judge.specs.declared.Verdict.TheVariants.{Accepted, Refused}
-use Rattle.judge.specs.declared.Judged.TheVariants as answers
+use Rattle.judge.specs.File.{unplaced, at_record, checked_from, finish, judged_by, with_place, judged_for, paper, judged}
+use Rattle.judge.specs.declared.Unplaced.{Unplaced}
+use Rattle.std.specs.Prelude.{Result, Ok, Err}
 use Rattle.sheet.specs.Sheets.{tab, made}
 use Rattle.sheet.specs.Write.{lines_ended}
 use Rattle.sheet.specs.Code.{lines_judged}
@@ -110,19 +108,19 @@ module _ (sheet : List ℕ) (free : holds bar sheet ≡ false) (ends : lines_end
       ∙ omega (arith, starts, first_field bar (record_at (made sheet) n)))
 
 -- a refusal is at one of the first n records
-abbrev Within : ℕ → Verdict → Type 0
-Within n (Accepted m) = Unit
-Within n (Refused number r k) = r ≤ n
+abbrev Within : ℕ → Result ℕ Unplaced → Type 0
+Within n (Ok m) = Unit
+Within n (Err x) = x.«record» ≤ n
 
-wider : {m n : ℕ} → m ≤ n → (v : Verdict) → Within m v → Within n v
-wider h (Accepted k) w = tt
-wider h (Refused number r k) w = omega arith
+wider : {m n : ℕ} → m ≤ n → (v : Result ℕ Unplaced) → Within m v → Within n v
+wider h (Ok k) w = tt
+wider h (Err x) w = omega arith
 
 -- a refusal among some records is at one of them
 module _ (sep : ℕ) (l : Layout) where
-  at_record_within : (n m : ℕ) → n ≤ m → (c : Check) (later : Verdict) → Within m later → Within m (at_record n c later)
-  at_record_within n m h Fine later w = w
-  at_record_within n m h (Fault number k) later w = h
+  at_record_within : (n m : ℕ) → n ≤ m → (c : Check) (later : Result ℕ Unplaced) → Within m later → Within m (at_record n c later)
+  at_record_within n m h (Ok nothing) later w = w
+  at_record_within n m h (Err x) later w = h
 
   checked_within : (before rs : List (List ℕ)) → Within (length before + length rs) (checked_from sep l before rs)
   unfolding checked_from
@@ -134,20 +132,20 @@ module _ (sep : ℕ) (l : Layout) where
 
 module _ (l : Layout) (proper : ProperFooter l) (sheet : List ℕ) (short : length sheet ≤ 1048000) (free : holds bar sheet ≡ false)
     (ends : lines_ended sheet ≡ true) (small : checksum_of (turned tab bar sheet) < 2 ^ 32) where
-  abbrev SamePlaced : Verdict → Type 0
+  abbrev SamePlaced : Result ℕ Unplaced → Type 0
   SamePlaced v = with_place tab sheet v ≡ with_place bar (made sheet) v
 
-  in_lines : (v : Verdict) → Within (length (records sheet)) v → SamePlaced v
-  in_lines (Accepted n) w = refl
-  in_lines (Refused number r k) w = ap (λ (p : ℕ). answers.Refused (refusal number r k p)) (line_place sheet free ends r k w)
+  in_lines : (v : Result ℕ Unplaced) → Within (length (records sheet)) v → SamePlaced v
+  in_lines (Ok n) w = refl
+  in_lines (Err x) w = ap (λ (p : ℕ). Err (refusal x.number x.«record» x.field p)) (line_place sheet free ends x.«record» x.field w)
 
-  at_footer : (b : Bool) → SamePlaced (must b (Refused 5 (length (records sheet) + 1) 1) (Accepted (length (records sheet) + 1)))
+  at_footer : (b : Bool) → SamePlaced (must b (Err (unplaced 5 (length (records sheet) + 1) 1)) (Ok (length (records sheet) + 1)))
   at_footer true = refl
-  at_footer false = ap (λ (p : ℕ). answers.Refused (refusal 5 (length (records sheet) + 1) 1 p)) (footer_place sheet free ends)
+  at_footer false = ap (λ (p : ℕ). Err (refusal 5 (length (records sheet) + 1) 1 p)) (footer_place sheet free ends)
 
-  then_footer : (v w : Verdict) → Within (length (records sheet)) v → SamePlaced w → SamePlaced (finish v w)
-  then_footer (Accepted n) w h e = e
-  then_footer (Refused number r k) w h e = in_lines (Refused number r k) h
+  then_footer : (v w : Result ℕ Unplaced) → Within (length (records sheet)) v → SamePlaced w → SamePlaced (finish v w)
+  then_footer (Ok n) w h e = e
+  then_footer (Err x) w h e = in_lines (Err x) h
 
   same_place : SamePlaced (judged_by l (made sheet))
   unfolding lines_judged

@@ -3,8 +3,7 @@ use Rattle.std.specs.Prelude.{ℕ, List, length}
 use Rattle.flow.specs.Editions.{Asked}
 use Rattle.judge.specs.File.{judged_for}
 use Rattle.sheet.specs.Sheets.{sheet_of}
-use Rattle.sheet.specs.Write.{as_judged, fitted, Handed}
-use Rattle.sheet.specs.declared.Transfer.{Transfer}
+use Rattle.sheet.specs.Write.{Transfer, as_judged, fitted, Handed}
 
 -- the reader's refusals, with their places in the file, then 17
 unfoldable pub read_to : Asked → List ℕ → ℕ → Transfer

@@ -1,7 +1,7 @@
 // Sheets: a file written from one, and one read from a file.
 #![tactic(auto)]
 
-ghost use Rattle.std.specs.Prelude.{◌≡◌, ◌||◌, List, ◌++◌, ◌∷◌, [], ℕ, ◌+◌, ◌-◌, ◌≤◌, ◌<◌, eqb, length, take, drop};
+ghost use Rattle.std.specs.Prelude.{◌≡◌, List, ◌++◌, ◌∷◌, [], ℕ, ◌+◌, ◌-◌, ◌≤◌, ◌<◌, length, take, drop};
 ghost use Rattle.record.specs.Records.{records, turned_byte, turned, joined, holds};
 ghost use Rattle.number.specs.Numbers.{decimal};
 ghost use Rattle.layout.specs.Numbers.{layout_of};
@@ -12,175 +12,109 @@ ghost use Rattle.sheet.specs.Write.{lines_ended, written_by, Handed, Wrote};
 ghost use Rattle.sheet.specs.Read.{Read};
 ghost use Rattle.sheet.specs.Code.{LinesRight, MadeRight, put};
 
-use flow::Named;
-use judge::{Judged, Walk};
+use judge::Unplaced;
 use place::Refusal;
-use record::{BAR, FEED, TAB};
+use record::{BAR, FEED, RecordSpans, TAB};
 
-// A file or sheet handed over, with its records and bytes; or a refusal, and no byte touched.
+// A file or sheet handed over: so many records in so many bytes.
+#[derive(Clone, Copy, PartialEq, Eq)]
+pub struct Transferred {
+    pub records: usize,
+    pub bytes: usize,
+}
+
+// What is known of a sheet whose made file is right: that file's records and checksum.
 #[derive(Clone, Copy)]
-pub enum Transfer {
-    Done { records: usize, bytes: usize },
-    Refused(Refusal),
+struct Made {
+    records: usize,
+    sum: u32,
 }
 
-// A sheet whose made file is right, with that file's records and checksum; or a refusal before its place is looked up.
-#[derive(Clone, Copy)]
-pub enum Made {
-    Right {
-        records: usize,
-        sum: u32,
-    },
-    Refused {
-        number: usize,
-        record: usize,
-        field: usize,
-    },
-}
-
-// The byte a is b, or one before it was.
-pub fn seen(a: u8, b: u8, before: bool) -> bool
-    ensures { result ≡ (eqb a b || before) }
-{
-    if a == b { true } else { before }
-}
-
-// The byte b stands among the bytes of s. All are looked at, since a sheet that passes has no bar.
+// The byte b stands among the bytes of s.
 pub fn has_byte(s: &[u8], b: u8) -> bool
     ensures { result ≡ holds b s.now }
 {
-    let mut found = false;
-    let mut i = 0;
-    while i < s.len() {
-        found = seen(s[i], b, found);
-        i += 1;
-    }
-    found
+    s.contains(&b)
 }
 
 // The first line of a sheet that has a bar, counted from 1; 0 where none has.
 pub fn first_bar_line(sheet: &[u8]) -> usize
     ensures { result ≡ bar_line 1 (records sheet.now) }
 {
-    let mut c = record::Cursor { at: 0 };
-    let mut passed = 0;
-    loop {
-        match c.step(sheet) {
-            record::Step::Done => {
-                return 0;
-            }
-            record::Step::Record { start, end, next } => {
-                if has_byte(&sheet[start..end], BAR) {
-                    return passed + 1;
-                }
-                passed += 1;
-                c = next;
-            }
+    for (passed, line) in RecordSpans::of(sheet).enumerate() {
+        if has_byte(line.of(sheet), BAR) {
+            return passed + 1;
         }
     }
+    0
 }
 
 // How many lines a sheet has.
 fn line_count(sheet: &[u8]) -> usize
     ensures { result ≡ length (records sheet.now) }
 {
-    let mut c = record::Cursor { at: 0 };
-    let mut passed = 0;
-    loop {
-        match c.step(sheet) {
-            record::Step::Done => {
-                return passed;
-            }
-            record::Step::Record {
-                start: _,
-                end: _,
-                next,
-            } => {
-                passed += 1;
-                c = next;
-            }
-        }
-    }
+    RecordSpans::of(sheet).count()
 }
 
 // Each line is ended by a line feed; an empty sheet has no line.
 fn lines_ended(sheet: &[u8]) -> bool
     ensures { result ≡ lines_ended sheet.now }
 {
-    if sheet.len() == 0 {
-        return true;
-    }
-    sheet[sheet.len() - 1] == FEED
+    sheet.is_empty() || sheet.last() == Some(&FEED)
 }
 
 // The kind of the footer, which is the last.
 fn footer_kind(t: &[u32]) -> usize
     ensures { (fixed : List ℕ) → result ≡ length (layout_of t.now fixed).rows - 1 }
 {
-    let rows = layout::row_count(t);
-    if rows == 0 {
-        return 0;
-    }
-    rows - 1
+    layout::row_count(t).saturating_sub(1)
 }
 
 // The lines of a sheet judged where they lie, and then the footer that will be added, which only the grammar can refuse.
-fn judge_lines(t: &[u32], fixed: &[u8], sheet: &[u8]) -> Made
+fn judge_lines(t: &[u32], fixed: &[u8], sheet: &[u8]) -> Result<Made, Unplaced>
     requires { length sheet.now ≤ 1048000 }
     ensures { LinesRight (layout_of t.now fixed.now) sheet.now result }
 {
     let class = text::class_table();
-    match judge::judge_records(t, fixed, &class, TAB, sheet) {
-        Walk::Stopped {
-            number,
-            record,
-            field,
-        } => Made::Refused {
-            number,
-            record,
-            field,
-        },
-        Walk::Through(st) => {
-            if !layout::may_follow(t, st.last, footer_kind(t)) {
-                return Made::Refused {
-                    number: 5,
-                    record: st.count + 1,
-                    field: 1,
-                };
-            }
-            Made::Right {
-                records: st.count + 1,
-                sum: st.sum,
-            }
-        }
+    let st = judge::judge_records(t, fixed, &class, TAB, sheet)?;
+    if !layout::may_follow(t, st.last, footer_kind(t)) {
+        return Err(Unplaced {
+            number: 5,
+            record: st.count + 1,
+            field: 1,
+        });
     }
+    Ok(Made {
+        records: st.count + 1,
+        sum: st.sum,
+    })
 }
 
 // A sheet by a table, up to the question of room: 2, 16, 15, then what the reader says of the made file.
-fn judge_sheet(t: &[u32], fixed: &[u8], sheet: &[u8]) -> Made
+fn judge_sheet(t: &[u32], fixed: &[u8], sheet: &[u8]) -> Result<Made, Unplaced>
     requires { ProperFooter (layout_of t.now fixed.now) }
     ensures { MadeRight (layout_of t.now fixed.now) sheet.now result }
 {
     if 1048000 < sheet.len() {
-        return Made::Refused {
+        return Err(Unplaced {
             number: 2,
             record: 0,
             field: 0,
-        };
+        });
     }
     if has_byte(sheet, BAR) {
-        return Made::Refused {
+        return Err(Unplaced {
             number: 16,
             record: first_bar_line(sheet),
             field: 0,
-        };
+        });
     }
     if !lines_ended(sheet) {
-        return Made::Refused {
+        return Err(Unplaced {
             number: 15,
             record: line_count(sheet),
             field: 0,
-        };
+        });
     }
     judge_lines(t, fixed, sheet)
 }
@@ -197,14 +131,12 @@ pub fn put_turned(out: &mut [u8], at: usize, s: &[u8], from: u8, to: u8)
     requires { at + length s.now ≤ length out.old }
     ensures { out.new ≡ put out.old at (turned from to s.now) }
 {
-    let mut i = 0;
-    while i < s.len() {
-        out[at + i] = turn(from, to, s[i]);
-        i += 1;
+    for (i, b) in s.iter().enumerate() {
+        out[at + i] = turn(from, to, *b);
     }
 }
 
-// How many digits a number has.
+// How many digits a number has; the loop counts the number down, and no index.
 fn digit_count(v: u64) -> usize
     ensures { (result ≡ length (decimal v)) × (result ≤ 20) }
 {
@@ -256,10 +188,7 @@ fn put_footer(out: &mut [u8], at: usize, records: usize, sum: u32)
     let total = sum as u64;
     let bar = at + 4 + digit_count(count);
     let end = bar + 1 + digit_count(total);
-    out[at] = b'Z';
-    out[at + 1] = b'P';
-    out[at + 2] = b'T';
-    out[at + 3] = BAR;
+    out[at..at + 4].copy_from_slice(b"ZPT|");
     put_decimal(out, bar, count);
     out[bar] = BAR;
     put_decimal(out, end, total);
@@ -270,74 +199,55 @@ fn put_footer(out: &mut [u8], at: usize, records: usize, sum: u32)
 pub fn last_start(f: &[u8]) -> usize
     ensures { (result ≤ length f.now) × (joined (but_last (records f.now)) ≡ take result f.now) }
 {
-    if f.len() == 0 {
+    if f.is_empty() {
         return 0;
     }
-    let mut i = f.len() - 1;
-    while 0 < i {
-        if f[i - 1] == FEED {
-            return i;
+    for i in (0..f.len() - 1).rev() {
+        if f[i] == FEED {
+            return i + 1;
         }
-        i -= 1;
     }
     0
 }
 
 // Writes the file of a sheet by a table into the lent bytes.
-fn write_by(t: &[u32], fixed: &[u8], sheet: &[u8], out: &mut [u8]) -> Transfer
+fn write_by(t: &[u32], fixed: &[u8], sheet: &[u8], out: &mut [u8]) -> Result<Transferred, Refusal>
     requires { ProperFooter (layout_of t.now fixed.now) }
     ensures { Handed (written_by (layout_of t.now fixed.now) sheet.now (length out.old)) (made sheet.now) result out.old out.new }
 {
-    match judge_sheet(t, fixed, sheet) {
-        Made::Refused {
-            number,
-            record,
-            field,
-        } => Transfer::Refused(place::at(TAB, sheet, number, record, field)),
-        Made::Right { records, sum } => {
-            let at = sheet.len();
-            let bytes = at + footer_length(records, sum);
-            if out.len() < bytes {
-                return Transfer::Refused(place::whole(17));
-            }
-            put_turned(out, 0, sheet, TAB, BAR);
-            put_footer(out, at, records, sum);
-            Transfer::Done { records, bytes }
-        }
+    let judged = judge_sheet(t, fixed, sheet);
+    let made = judged.map_err(|r| place::at(TAB, sheet, r.number, r.record, r.field))?;
+    let records = made.records;
+    let at = sheet.len();
+    let bytes = at + footer_length(records, made.sum);
+    if out.len() < bytes {
+        return Err(place::whole(17));
     }
+    put_turned(out, 0, sheet, TAB, BAR);
+    put_footer(out, at, records, made.sum);
+    Ok(Transferred { records, bytes })
 }
 
 // Writes the file of a sheet for the flow that the words ask for into the lent bytes. Any words, any bytes, any room.
-pub fn write(flow: &[u8], sheet: &[u8], out: &mut [u8]) -> Transfer
+pub fn write(flow: &[u8], sheet: &[u8], out: &mut [u8]) -> Result<Transferred, Refusal>
     ensures { Wrote (asked flow.now) sheet.now result out.old out.new }
 {
-    match flow::find(flow) {
-        Named::Refused(refusal) => Transfer::Refused(refusal),
-        Named::Flow(n) => {
-            let table = flow::table_of(n);
-            let numbers = table.numbers;
-            let fixed = table.fixed;
-            write_by(&numbers, &fixed, sheet, out)
-        }
-    }
+    let table = flow::table_of(flow::find(flow)?);
+    write_by(&table.numbers, &table.fixed, sheet, out)
 }
 
 // Reads a file for the flow that the words ask for to a sheet in the lent bytes. Any words, any bytes, any room.
-pub fn read(flow: &[u8], file: &[u8], out: &mut [u8]) -> Transfer
+pub fn read(flow: &[u8], file: &[u8], out: &mut [u8]) -> Result<Transferred, Refusal>
     ensures { Read (asked flow.now) file.now result out.old out.new }
 {
-    match judge::judge(flow, file) {
-        Judged::Refused(refusal) => Transfer::Refused(refusal),
-        Judged::Accepted(records) => {
-            let end = last_start(file);
-            if out.len() < end {
-                return Transfer::Refused(place::whole(17));
-            }
-            put_turned(out, 0, &file[..end], BAR, TAB);
-            Transfer::Done {
-                records,
-                bytes: end,
-            }
-        }
+    let records = judge::judge(flow, file)?;
+    let end = last_start(file);
+    if out.len() < end {
+        return Err(place::whole(17));
     }
+    put_turned(out, 0, &file[..end], BAR, TAB);
+    Ok(Transferred {
+        records,
+        bytes: end,
+    })
 }

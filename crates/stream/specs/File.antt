@@ -1,8 +1,8 @@
 -- What a load of a file says of the room that it was lent. Assumes nothing.
-use Rattle.std.specs.Prelude.{ℕ, ◌≡◌, Bool, false, List}
+use Rattle.std.specs.Prelude.{ℕ, List, Option, Some, None}
 use Rattle.io.specs.Counts.{IsPrefixLen}
 
--- the file's bytes stand at the front of the room; a file that was not read has none there
-pub record Loads (room : List ℕ) (read : Bool) (size : ℕ) : Type 0 where
-  pub within : IsPrefixLen size room
-  pub none : read ≡ false → size ≡ 0
+-- the bytes that came stand at the front of the room; of a file that was not read none came
+abbrev pub Loads : List ℕ → Option ℕ → Type 0
+Loads room (Some size) = IsPrefixLen size room
+Loads room None = Unit {0}

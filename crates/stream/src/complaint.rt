@@ -1,6 +1,6 @@
 // What hinders a program, said on standard error. Where the system's word on it is said too, it comes
 // with the error that the call gave.
-use crate::line::{least, put};
+use crate::line::put;
 use std::fmt::InlineText;
 use std::io::Error;
 
@@ -31,11 +31,8 @@ fn tell_part_shown(rt: &impl Eprint, part: &[u8]) {
 
 // Writes bytes to standard error as people can read them.
 pub fn tell_shown(rt: &impl Eprint, bytes: &[u8]) {
-    let mut at = 0;
-    while at < bytes.len() {
-        let end = at + least(1024, bytes.len() - at);
-        tell_part_shown(rt, &bytes[at..end]);
-        at = end;
+    for part in bytes.chunks(1024) {
+        tell_part_shown(rt, part);
     }
 }
 

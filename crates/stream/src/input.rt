@@ -28,14 +28,11 @@ fn to_front(window: &mut [u8], u: Unread) -> Unread
     ensures from_value { (result.from ≡ 0) × (result.to ≡ u.to - u.from) }
     ensures window_after { take (u.to - u.from) window.new ≡ take (u.to - u.from) (drop u.from window.old) }
 {
-    let from = u.from;
-    let n = u.to - from;
-    let mut i = 0;
-    while i < n {
-        window[i] = window[from + i];
-        i += 1;
+    window.copy_within(u.from..u.to, 0);
+    Unread {
+        from: 0,
+        to: u.to - u.from,
     }
-    Unread { from: 0, to: n }
 }
 
 // One read of standard input, behind the unread bytes; where it fails, it says why.

@@ -3,13 +3,6 @@ ghost use Rattle.std.specs.Prelude.{◌≡◌, ◌+◌, ◌-◌, ◌≤◌, min,
 ghost use Rattle.std.proofs.Math.Seq.{paste};
 ghost use Rattle.io.specs.Counts.{IsPrefixLen};
 
-// The smaller of two numbers.
-pub fn least(a: usize, b: usize) -> usize
-    ensures { (result ≡ min a b) × (result ≤ b) }
-{
-    if a < b { a } else { b }
-}
-
 // Puts bytes into a line from place `at` on, as many as there is room for, and gives the place
 // behind them.
 pub fn put(line: &mut [u8], at: usize, s: &[u8]) -> usize
@@ -18,12 +11,8 @@ pub fn put(line: &mut [u8], at: usize, s: &[u8]) -> usize
     ensures line_after { line.new ≡ paste line.old at s.now (result - at) }
     ensures value { result ≡ at + min (length s.now) (length line.old - at) }
 {
-    let n = least(s.len(), line.len() - at);
-    let mut i = 0;
-    while i < n {
-        line[at + i] = s[i];
-        i += 1;
-    }
+    let n = s.len().min(line.len() - at);
+    line[at..at + n].copy_from_slice(&s[..n]);
     at + n
 }
 

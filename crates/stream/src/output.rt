@@ -1,27 +1,27 @@
 // Bytes and numbers on standard output, and bytes as people can read them.
 use crate::calls::write_whole;
 use crate::complaint::fail;
-use crate::line::least;
 use std::io::{Write, writer};
 
+// Standard output did not take all, and that has been said on standard error.
+#[derive(Clone, Copy, PartialEq, Eq, Debug)]
+pub struct Unwritten;
+
 // Says so where standard output did not take all.
-fn said(rt: &impl Eprint, written: std::io::Result<()>) -> bool {
-    match written {
-        Ok(()) => true,
-        Err(e) => {
-            fail(rt, b"can't write standard output", e);
-            false
-        }
-    }
+fn said(rt: &impl Eprint, written: std::io::Result<()>) -> Result<(), Unwritten> {
+    written.map_err(|e| {
+        fail(rt, b"can't write standard output", e);
+        Unwritten
+    })
 }
 
 // Writes bytes to standard output; where they can't all be written, that is said.
-pub fn print(rt: &(impl Print + Eprint), bytes: &[u8]) -> bool {
+pub fn print(rt: &(impl Print + Eprint), bytes: &[u8]) -> Result<(), Unwritten> {
     said(rt, write_whole(&mut writer(rt), bytes))
 }
 
 // Writes a number to standard output.
-pub fn print_number(rt: &(impl Print + Eprint), n: u64) -> bool {
+pub fn print_number(rt: &(impl Print + Eprint), n: u64) -> Result<(), Unwritten> {
     let mut digits = [0u8; 20];
     let k = io::decimal(n, &mut digits);
     print(rt, &digits[..k])
@@ -36,16 +36,13 @@ fn write_part_shown<W: Write>(to: &mut W, part: &[u8]) -> std::io::Result<()> {
 
 // Writes bytes as people can read them.
 fn write_shown<W: Write>(to: &mut W, bytes: &[u8]) -> std::io::Result<()> {
-    let mut at = 0;
-    while at < bytes.len() {
-        let end = at + least(1024, bytes.len() - at);
-        write_part_shown(to, &bytes[at..end])?;
-        at = end;
+    for part in bytes.chunks(1024) {
+        write_part_shown(to, part)?;
     }
     Ok(())
 }
 
 // Writes bytes to standard output as people can read them.
-pub fn print_shown(rt: &(impl Print + Eprint), bytes: &[u8]) -> bool {
+pub fn print_shown(rt: &(impl Print + Eprint), bytes: &[u8]) -> Result<(), Unwritten> {
     said(rt, write_shown(&mut writer(rt), bytes))
 }

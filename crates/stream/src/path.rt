@@ -13,14 +13,12 @@ fn put_link(line: &mut [u8], name: &[u8]) -> usize
 {
     let mut digits = [0u8; 16];
     let mut at = put(line, 0, b"/proc/self/fd/5");
-    let mut i = 0;
-    while i < name.len() {
+    for (i, b) in name.iter().enumerate() {
         if i % 100 == 0 {
             at = put(line, at, b"/");
         }
-        let k = io::hex(name[i] as u64, 2, &mut digits);
+        let k = io::hex(*b as u64, 2, &mut digits);
         at = put(line, at, &digits[..k]);
-        i += 1;
     }
     put(line, at, b"-")
 }

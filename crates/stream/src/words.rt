@@ -8,21 +8,16 @@ use std::rt::Env;
 pub fn arg(rt: &impl Env, i: usize, room: &mut [u8]) -> usize
     ensures { IsPrefixLen result room.new }
 {
-    match rt.arg(i, room) {
-        Ok(n) => n,
-        Err(_) => 0,
-    }
+    rt.arg(i, room).unwrap_or(0)
 }
 
 // How many words there are.
 pub fn arg_count(rt: &impl Env) -> usize {
     let mut room = [0u8; 1];
-    let mut n = 0;
-    while n < usize::MAX {
-        match rt.arg(n, &mut room) {
-            Err(FillError::NotPresent) => return n,
-            _ => n += 1,
+    for n in 0..usize::MAX {
+        if let Err(FillError::NotPresent) = rt.arg(n, &mut room) {
+            return n;
         }
     }
-    n
+    usize::MAX
 }

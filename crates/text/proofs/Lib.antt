@@ -5,5 +5,4 @@ pub mod Inverse
 pub mod Ors
 pub mod Classes
 pub mod Orders
-pub mod Parts
 pub mod Examples

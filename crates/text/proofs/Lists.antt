@@ -1,15 +1,16 @@
 -- One step of a loop that goes through a list by `drop i`, and what the same bytes are. Assumes nothing.
-use mathlib.Core.Path.{◌≡◌, refl, sym, ◌∙◌, ap, ap₂}
-use mathlib.Core.Bool.{Bool, true, false, ◌&&◌, and-false}
+use mathlib.Core.Path.{◌≡◌, refl, ap, ap₂}
+use mathlib.Core.Bool.{Bool, true, false, ◌&&◌}
 use mathlib.Core.List.{List, [], ◌∷◌}
-use Prim.Native.Nat.{ℕ, suc, ◌+◌, ◌-◌, ◌≤◌, ◌<◌}
+use Prim.Native.Nat.{ℕ, ◌+◌, ◌-◌, ◌≤◌, ◌<◌}
 use native.Mathlib.Nat.{le_of_eq}
 use native.Mathlib.Numerals.{add-one}
 use native.Mathlib.Omega.{arith}
 use lib.ListN.{length, get_or, drop, take, drop_of_length-le, length-drop}
 use lib.Dec.{T, eqb}
 use lib.Seq.{drop-cons, take_all}
-use borrow.Author.Tests.{eq-eqb, ne_eqb, eqb-true}
+use borrow.Author.Tests.{eq-eqb, eqb-true}
+use Rattle.std.specs.List.{list_all}
 use Rattle.text.specs.Characters.{all}
 use Rattle.text.specs.Order.{same_bytes}
 
@@ -30,28 +31,14 @@ module _ (p : ℕ → Bool) (s : List ℕ) (i : ℕ) where
   pub all_end : length s ≤ i → all p (drop i s) ≡ true
   all_end h = rw (drop_of_length-le s h)
 
+-- the library's test of all
+pub list_all_is : (p : ℕ → Bool) (s : List ℕ) → list_all p s ≡ all p s
+list_all_is p [] = refl
+list_all_is p (x ∷ s) = ap (λ (t : Bool). p x && t) (list_all_is p s)
+
 -- the part of a slice from i to its end
 pub rest : (i : ℕ) (s : List ℕ) → take (length s - i) (drop i s) ≡ drop i s
 rest i s = take_all (length s - i) (drop i s) (le_of_eq (length-drop i s))
-
--- lists of different lengths are not the same bytes
-pub same_long : (a b : List ℕ) → (length a ≡ length b → ⊥) → false ≡ same_bytes a b
-same_long [] [] h = absurd (h refl)
-same_long [] (y ∷ ys) h = refl
-same_long (x ∷ xs) [] h = refl
-same_long (x ∷ xs) (y ∷ ys) h =
-    sym (and-false (eqb x y)) ∙ ap (λ (t : Bool). eqb x y && t) (same_long xs ys (λ e. h (ap suc e)))
-
-module _ (a b : List ℕ) (i : ℕ) where
-  pub same_fails : i < length a → i < length b → (get_or a i 0 ≡ get_or b i 0 → ⊥) → same_bytes (drop i a) (drop i b) ≡ false
-  same_fails h k e = rw (drop-cons a i 0 h, drop-cons b i 0 k, ne_eqb _ _ e)
-
-  pub same_next : i < length a → i < length b → get_or a i 0 ≡ get_or b i 0
-      → same_bytes (drop (i + 1) a) (drop (i + 1) b) ≡ same_bytes (drop i a) (drop i b)
-  same_next h k e = rw (add-one, drop-cons a i 0 h, drop-cons b i 0 k, eq-eqb _ _ e)
-
-  pub same_end : length a ≤ i → length b ≤ i → same_bytes (drop i a) (drop i b) ≡ true
-  same_end h k = rw (drop_of_length-le a h, drop_of_length-le b k)
 
 -- bytes that are the same are equal, and a list is the same as itself
 pub same→≡ : (a b : List ℕ) → T (same_bytes a b) → a ≡ b

@@ -3,15 +3,9 @@
 
 ghost use Rattle.std.specs.Prelude.{◌≡◌, take, drop};
 ghost use Rattle.text.specs.Characters.{is_text, all, IsClassTable};
-ghost use Rattle.text.specs.Order.{same_bytes, number_order, text_order};
+ghost use Rattle.text.specs.Order.{same_bytes, text_order};
 
-// How one text or number stands to another.
-#[derive(Clone, Copy)]
-pub enum Order {
-    Below,
-    Equal,
-    Above,
-}
+use std::cmp::Ordering;
 
 // The class of each byte value: 0 a digit, 1 another text character, 2 none.
 const CLASS: [u8; 256] = [
@@ -286,11 +280,8 @@ pub fn all_text(class: &[u8; 256], s: &[u8]) -> bool
     ensures { result ≡ all is_text s.now }
 {
     let mut seen: u8 = 0;
-    let mut i = 0;
-    while i < s.len() {
-        let b = s[i] as usize;
-        seen = seen | class[b];
-        i += 1;
+    for b in s {
+        seen = seen | class[*b as usize];
     }
     seen < 2
 }
@@ -299,65 +290,20 @@ pub fn all_text(class: &[u8; 256], s: &[u8]) -> bool
 pub fn same_bytes(a: &[u8], b: &[u8]) -> bool
     ensures { result ≡ same_bytes a.now b.now }
 {
-    if a.len() != b.len() {
-        return false;
-    }
-    let mut i = 0;
-    while i < a.len() {
-        if a[i] != b[i] {
-            return false;
-        }
-        i += 1;
-    }
-    true
-}
-
-// How the number a stands to the number b.
-pub fn number_order(a: u64, b: u64) -> Order
-    ensures { result ≡ number_order a b }
-{
-    if a < b {
-        return Order::Below;
-    }
-    if b < a {
-        return Order::Above;
-    }
-    Order::Equal
+    a == b
 }
 
 // How the text a stands to the text b: by byte, a shorter text before one that continues it.
-pub fn text_order(a: &[u8], b: &[u8]) -> Order
+pub fn text_order(a: &[u8], b: &[u8]) -> Ordering
     ensures { result ≡ text_order a.now b.now }
 {
-    let mut i = 0;
-    while i < a.len() {
-        if b.len() <= i {
-            return Order::Above;
-        }
-        if a[i] != b[i] {
-            if a[i] < b[i] {
-                return Order::Below;
-            }
-            return Order::Above;
-        }
-        i += 1;
-    }
-    if i < b.len() {
-        return Order::Below;
-    }
-    Order::Equal
+    a.cmp(b)
 }
 
 // The bytes from a on, n of them, as many as there are.
 pub fn part<'a>(s: &'a [u8], a: usize, n: usize) -> &'a [u8]
     ensures { result.now ≡ take n (drop a s.now) }
 {
-    if s.len() <= a {
-        return &s[0..0];
-    }
-    if s.len() - a < n {
-        return &s[a..];
-    }
-    let e = a + n;
-    &s[a..e]
+    let rest = &s[a.min(s.len())..];
+    &rest[..n.min(rest.len())]
 }

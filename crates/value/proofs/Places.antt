@@ -12,17 +12,17 @@ use Rattle.number.proofs.Digits.{and_left, and_right}
 use Rattle.record.specs.Records.{records, fields, field, IsPart, bar}
 use Rattle.place.specs.Places.{record_at, place_at, refusal_at}
 use Rattle.place.proofs.Points.{field_at_place}
-use Rattle.field.specs.declared.FieldAnswer.{FieldAnswer}
-use Rattle.field.specs.declared.FieldAnswer.TheVariants as answers
+use Rattle.field.specs.declared.Content.{Content}
+use Rattle.field.specs.declared.Content.TheVariants as contents
+use Rattle.field.specs.declared.Wrong.{Wrong}
 use Rattle.layout.specs.Layout.{Layout}
 use Rattle.flow.specs.Publication.{layout_for}
 use Rattle.flow.specs.Editions.{Asked, a_flow, no_flow}
 use Rattle.judge.specs.File.{placed_by}
-use Rattle.judge.specs.declared.Judged.{Judged}
-use Rattle.judge.specs.declared.Judged.TheVariants as files
 use Rattle.value.specs.Value.{is_there, end_of, text_at, as_value, answer_in, field_value, of_accepted, value_at, value_by, value_in, paper, text, TextWithin}
 use Rattle.value.specs.declared.Value.{Value}
-use Rattle.value.specs.declared.Value.TheVariants.{Refused}
+use Rattle.std.specs.Prelude.{Result, Ok, Err}
+use Rattle.place.specs.declared.Refusal.{Refusal}
 
 -- a number from 1 on
 counted : (n k : ℕ) → from_to 1 n k ≡ true → (1 ≤ k) × (k ≤ n)
@@ -44,18 +44,18 @@ pub text_bytes : (f : List ℕ) (n k : ℕ) → is_there f n k ≡ true
 text_bytes f n k e = ap (text (place_at bar f n k) (place_at bar f n k + length (field bar k (record_at f n)))) (text_lies f n k e).is
 
 -- and every text that is answered lies within the file
-within_answer : (f : List ℕ) (n k : ℕ) → TextWithin f (text_at f n k) → (a : FieldAnswer) → TextWithin f (as_value n k (place_at bar f n k) (end_of f n k) a)
-within_answer f n k h (answers.Refused number) = tt
-within_answer f n k h answers.Empty = tt
-within_answer f n k h (answers.Number z) = tt
-within_answer f n k h (answers.Truth b) = tt
-within_answer f n k h answers.Text = h
+within_answer : (f : List ℕ) (n k : ℕ) → TextWithin f (text_at f n k) → (a : Result Content Wrong) → TextWithin f (as_value n k (place_at bar f n k) (end_of f n k) a)
+within_answer f n k h (Err wrong) = tt
+within_answer f n k h (Ok contents.Empty) = tt
+within_answer f n k h (Ok (contents.Number z)) = tt
+within_answer f n k h (Ok (contents.Truth b)) = tt
+within_answer f n k h (Ok contents.Text) = h
 
-within_either : (f : List ℕ) (b : Bool) (v w : Value) → TextWithin f v → TextWithin f w → TextWithin f (cond b v w)
+within_either : (f : List ℕ) (b : Bool) (v w : Result Value Refusal) → TextWithin f v → TextWithin f w → TextWithin f (cond b v w)
 within_either f true v w h g = h
 within_either f false v w h g = g
 
-within_there : (f : List ℕ) (n k : ℕ) (v : Value) (b : Bool) → (b ≡ true → TextWithin f v) → TextWithin f (must b (Refused (refusal_at bar f 18 n k)) v)
+within_there : (f : List ℕ) (n k : ℕ) (v : Result Value Refusal) (b : Bool) → (b ≡ true → TextWithin f v) → TextWithin f (must b (Err (refusal_at bar f 18 n k)) v)
 within_there f n k v true h = h refl
 within_there f n k v false h = tt
 
@@ -68,9 +68,9 @@ within_at l f n k =
     let h : TextWithin f (text_at f n k) = (p.ordered, p.within) in
     within_either f (eqb k 1) (text_at f n k) _ h (within_answer f n k h (answer_in l (record_at f n) k)))
 
-within_accepted : (f : List ℕ) (w : Judged) (v : Value) → TextWithin f v → TextWithin f (of_accepted w v)
-within_accepted f (files.Accepted n) v h = h
-within_accepted f (files.Refused r) v h = tt
+within_accepted : (f : List ℕ) (w : Result ℕ Refusal) (v : Result Value Refusal) → TextWithin f v → TextWithin f (of_accepted w v)
+within_accepted f (Ok n) v h = h
+within_accepted f (Err r) v h = tt
 
 -- by any layout
 pub within_by : (l : Layout) (f : List ℕ) (n k : ℕ) → TextWithin f (value_by l f n k)

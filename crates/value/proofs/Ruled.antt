@@ -18,7 +18,8 @@ use Rattle.place.proofs.Points.{found_field}
 use Rattle.field.specs.Judge.{bare, marked, field_answer}
 use Rattle.field.specs.declared.FieldType.{FieldType}
 use Rattle.field.specs.declared.FieldType.TheVariants as types
-use Rattle.field.specs.declared.FieldAnswer.{FieldAnswer}
+use Rattle.field.specs.declared.Content.{Content}
+use Rattle.field.specs.declared.Wrong.{Wrong}
 use Rattle.field.specs.declared.Mark.{Mark}
 use Rattle.layout.specs.Layout.{Rule, no_rule, Layout}
 use Rattle.layout.specs.Numbers.{word, type_of, fixed_of, rule_of, layout_of, RulesOf}
@@ -26,11 +27,13 @@ use Rattle.layout.proofs.FieldRules.{rule_at, rule_past, type_is}
 use Rattle.fault.specs.Record.{kind_of}
 use Rattle.value.specs.Value.{is_there, end_of, rule_for, by_rule, as_value, field_value, value_at}
 use Rattle.value.specs.declared.Value.{Value}
-use Rattle.value.specs.declared.Value.TheVariants.{Refused, Text}
+use Rattle.value.specs.declared.Value.TheVariants.{Text}
+use Rattle.std.specs.Prelude.{Result, Ok, Err}
+use Rattle.place.specs.declared.Refusal.{Refusal}
 
 -- field k of a record of kind j, whose m rules stand at p
 module _ (t fixed : List ℕ) (j p m : ℕ) (rules : RulesOf t fixed j p m) (k : ℕ) (s : List ℕ) where
-  pub ruled : k - 2 < m → (mark : Mark) {type : FieldType} {value : List ℕ} {a : FieldAnswer}
+  pub ruled : k - 2 < m → (mark : Mark) {type : FieldType} {value : List ℕ} {a : Result Content Wrong}
       → type ≡ type_of (word t (p + 3 * (k - 2))) → marked mark (fixed_of t fixed (p + 3 * (k - 2))) ≡ (rule_of t fixed (p + 3 * (k - 2))).mark
       → value ≡ fixed_of t fixed (p + 3 * (k - 2)) → a ≡ field_answer type (marked mark value) s
       → a ≡ by_rule (rule_for (layout_of t fixed) j k) s
@@ -40,14 +43,14 @@ module _ (t fixed : List ℕ) (j p m : ℕ) (rules : RulesOf t fixed j p m) (k :
       is ∙ (λ i. field_answer (q i) (w i) s) ∙ sym (ap (λ (r : Rule). by_rule r s) (rule_at t fixed j p m rules no_rule (k - 2) h))
 
   -- past the rules, null's
-  pub unruled : m ≤ k - 2 → {a : FieldAnswer} → a ≡ field_answer types.Null bare s → a ≡ by_rule (rule_for (layout_of t fixed) j k) s
+  pub unruled : m ≤ k - 2 → {a : Result Content Wrong} → a ≡ field_answer types.Null bare s → a ≡ by_rule (rule_for (layout_of t fixed) j k) s
   unruled h is = is ∙ sym (ap (λ (r : Rule). by_rule r s) (rule_past t fixed j p m rules no_rule (k - 2) h))
 
 module _ (l : Layout) (f : List ℕ) (n k : ℕ) where
-  abbrev missing : Value
-  missing = Refused (refusal_at bar f 18 n k)
+  abbrev missing : Result Value Refusal
+  missing = Err (refusal_at bar f 18 n k)
 
-  abbrev lastly : Bool → Value
+  abbrev lastly : Bool → Result Value Refusal
   lastly b = must b missing (field_value l f n k)
 
   abbrev field_there : List ℕ → Bool
@@ -92,12 +95,12 @@ module _ (l : Layout) (f : List ℕ) (n k : ℕ) where
       found = ap lastly (sym there_is ∙ counts (length (fields bar r)) k y.least y.most)
 
       -- a kind
-      pub kind_value : k ≡ 1 → Text (start + a) (start + e) ≡ value_at l f n k
+      pub kind_value : k ≡ 1 → Ok (Text (start + a) (start + e)) ≡ value_at l f n k
       unfolding field_value
-      kind_value z = (λ i. Text (placed.0 i) (placed.1 i)) ∙ sym (found ∙ rw (eq-eqb k 1 z))
+      kind_value z = (λ i. Ok (Text (placed.0 i) (placed.1 i))) ∙ sym (found ∙ rw (eq-eqb k 1 z))
 
       -- any other field
-      pub ruled_value : (k ≡ 1 → ⊥) → {j : ℕ} {answer : FieldAnswer} {v : Value} → j ≡ kind_of bar l r → answer ≡ by_rule (rule_for l j k) s
+      pub ruled_value : (k ≡ 1 → ⊥) → {j : ℕ} {answer : Result Content Wrong} {v : Result Value Refusal} → j ≡ kind_of bar l r → answer ≡ by_rule (rule_for l j k) s
           → v ≡ as_value n k (start + a) (start + e) answer → v ≡ value_at l f n k
       unfolding field_value
       ruled_value z kind is v =

@@ -6,16 +6,13 @@ ghost use Rattle.layout.specs.Numbers.{layout_of};
 ghost use Rattle.flow.specs.Editions.{asked};
 ghost use Rattle.value.specs.Value.{rule_for, by_rule, as_value, value_at, value_by, valued, paper, TextWithin};
 
-use field::{FieldAnswer, FieldType, Mark};
-use flow::Named;
-use judge::Judged;
+use field::{Content, FieldType, Mark, Wrong};
 use place::Refusal;
-use record::{BAR, Found};
+use record::BAR;
 
-// A refusal, or a value. A text's value is where its bytes start and end in the file.
-#[derive(Clone, Copy)]
+// The value of a field. A text's value is where its bytes start and end in the file.
+#[derive(Clone, Copy, Debug, PartialEq, Eq)]
 pub enum Value {
-    Refused(Refusal),
     Empty,
     Number(i64),
     Truth(bool),
@@ -23,7 +20,7 @@ pub enum Value {
 }
 
 // Field k, past the kind, of a record of kind j, by its rule.
-fn answer_by(t: &[u32], fixed: &[u8], j: usize, k: usize, s: &[u8]) -> FieldAnswer
+fn answer_by(t: &[u32], fixed: &[u8], j: usize, k: usize, s: &[u8]) -> Result<Content, Wrong>
     requires { 2 ≤ k }
     ensures { result ≡ by_rule (rule_for (layout_of t.now fixed.now) j k) s.now }
 {
@@ -40,71 +37,61 @@ fn answer_by(t: &[u32], fixed: &[u8], j: usize, k: usize, s: &[u8]) -> FieldAnsw
 }
 
 // The answer of field k of record n, which stands from `from` up to `to`, as a value.
-pub fn as_value(a: FieldAnswer, n: usize, k: usize, from: usize, to: usize) -> Value
+pub fn as_value(
+    a: Result<Content, Wrong>,
+    n: usize,
+    k: usize,
+    from: usize,
+    to: usize,
+) -> Result<Value, Refusal>
     ensures { result ≡ as_value n k from to a }
 {
     match a {
-        FieldAnswer::Refused(number) => Value::Refused(Refusal {
-            number: number as usize,
+        Err(wrong) => Err(Refusal {
+            number: wrong.number() as usize,
             record: n,
             field: k,
             place: from,
         }),
-        FieldAnswer::Empty => Value::Empty,
-        FieldAnswer::Number(z) => Value::Number(z),
-        FieldAnswer::Truth(b) => Value::Truth(b),
-        FieldAnswer::Text => Value::Text { from: from, to: to },
+        Ok(Content::Empty) => Ok(Value::Empty),
+        Ok(Content::Number(z)) => Ok(Value::Number(z)),
+        Ok(Content::Truth(b)) => Ok(Value::Truth(b)),
+        Ok(Content::Text) => Ok(Value::Text { from, to }),
     }
 }
 
 // Field k of record n of an accepted file by a table: 18 where there is none, a kind's bytes, or its value by its rule.
-fn value_at(t: &[u32], fixed: &[u8], f: &[u8], n: usize, k: usize) -> Value
+fn value_at(t: &[u32], fixed: &[u8], f: &[u8], n: usize, k: usize) -> Result<Value, Refusal>
     ensures { result ≡ value_at (layout_of t.now fixed.now) f.now n k }
 {
-    let Found::At { start, end } = record::record_at(f, n) else {
-        return Value::Refused(place::at(BAR, f, 18, n, k));
+    let Some(record) = record::record_at(f, n) else {
+        return Err(place::at(BAR, f, 18, n, k));
     };
-    let r = &f[start..end];
-    let Found::At { start: a, end: e } = record::field_at(BAR, r, k) else {
-        return Value::Refused(place::at(BAR, f, 18, n, k));
+    let r = record.of(f);
+    let Some(field) = record::field_at(BAR, r, k) else {
+        return Err(place::at(BAR, f, 18, n, k));
     };
+    let from = record.start + field.start;
+    let to = record.start + field.end;
     if k == 1 {
-        return Value::Text {
-            from: start + a,
-            to: start + e,
-        };
+        return Ok(Value::Text { from, to });
     }
     let j = fault::kind_of(t, BAR, r);
-    as_value(
-        answer_by(t, fixed, j, k, &r[a..e]),
-        n,
-        k,
-        start + a,
-        start + e,
-    )
+    as_value(answer_by(t, fixed, j, k, field.of(r)), n, k, from, to)
 }
 
 // Field k of record n of a file by a table: the reader's refusals, then what follows of an accepted file.
-fn value_by(t: &[u32], fixed: &[u8], f: &[u8], n: usize, k: usize) -> Value
+fn value_by(t: &[u32], fixed: &[u8], f: &[u8], n: usize, k: usize) -> Result<Value, Refusal>
     ensures { result ≡ value_by (layout_of t.now fixed.now) f.now n k }
 {
-    match judge::judge_by(t, fixed, f) {
-        Judged::Refused(refusal) => Value::Refused(refusal),
-        Judged::Accepted(_) => value_at(t, fixed, f, n, k),
-    }
+    judge::judge_by(t, fixed, f)?;
+    value_at(t, fixed, f, n, k)
 }
 
 // The value of field k of record n of a file for the flow that the words ask for. Any words, any bytes, any numbers.
-pub fn value_of(flow: &[u8], f: &[u8], n: usize, k: usize) -> Value
+pub fn value_of(flow: &[u8], f: &[u8], n: usize, k: usize) -> Result<Value, Refusal>
     ensures { (paper f.now result ≡ valued (asked flow.now) f.now n k) × TextWithin f.now result }
 {
-    match flow::find(flow) {
-        Named::Refused(refusal) => Value::Refused(refusal),
-        Named::Flow(number) => {
-            let table = flow::table_of(number);
-            let numbers = table.numbers;
-            let fixed = table.fixed;
-            value_by(&numbers, &fixed, f, n, k)
-        }
-    }
+    let table = flow::table_of(flow::find(flow)?);
+    value_by(&table.numbers, &table.fixed, f, n, k)
 }

@@ -1,3 +1,4 @@
 pub mod Digits
 pub mod Insides
 pub mod Examples
+pub mod Bytewise

@@ -1,12 +1,11 @@
--- `add_record` is right: the running sum with the bytes from `i` on stays the sum with the whole record.
-use Prim.Native.Nat.{◌≤◌, ◌-◌}
+-- `add_record` is right: the running sum with the bytes that are left stays the sum with the whole record.
 use mathlib.Core.Path.{◌≡◌}
-use lib.ListN.{length, drop}
+use lib.ListN.{length}
 use Rattle.checksum.specs.Checksum.{add_record}
 use Rattle.checksum.proofs.add_record.Given as goal
 
-abbrev pub invariant-loop-i : goal.invariant-loop-i
-invariant-loop-i l = (l.i ≤ length l.part) × (add_record l.t (drop l.i l.part) ≡ add_record l.sum l.part)
+abbrev pub invariant-loop-piece : goal.invariant-loop-piece
+invariant-loop-piece l = add_record l.t l.rest ≡ add_record l.sum l.part
 
-abbrev pub decreases-loop-i : goal.decreases-loop-i
-decreases-loop-i l = length l.part - l.i
+abbrev pub decreases-loop-piece : goal.decreases-loop-piece
+decreases-loop-piece l = length l.rest

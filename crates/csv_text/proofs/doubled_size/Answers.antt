@@ -8,17 +8,17 @@ use Rattle.csv_text.proofs.doubled_size.Goals as goal
 pub overflow_add-n : goal.overflow_add-n
 overflow_add-n c =
     let a = c.args in
-    let l = c.loop-i in
-    omega (arith, c.times-n.ensures, size_next a.x.now l.i (omega arith))
+    let l = c.loop-b in
+    omega (arith, c.times-n.ensures, size_next a.x.now l.b-index (omega arith))
 
-pub loop-i-preserved : goal.loop-i-preserved
-loop-i-preserved c =
+pub loop-b-preserved : goal.loop-b-preserved
+loop-b-preserved c =
     let a = c.args in
-    let l = c.loop-i in
-    (omega arith, omega (arith, c.times-n.ensures, size_next a.x.now l.i (omega arith)))
+    let l = c.loop-b in
+    omega (arith, c.times-n.ensures, size_next a.x.now l.b-index (omega arith))
 
 pub returns : goal.returns
 returns c =
     let a = c.args in
-    let l = c.loop-i in
-    omega (arith, ap length (doubled_end a.x.now l.i (omega arith)))
+    let l = c.loop-b in
+    omega (arith, ap length (doubled_end a.x.now l.b-index (omega arith)))

@@ -1,13 +1,12 @@
--- Why fields_size is right: the bytes counted and those of the fields from the cursor on are all.
-use Prim.Native.Nat.{◌≤◌, ◌+◌, ◌-◌}
+-- Why fields_size is right: the bytes counted and those of the fields that are left are all.
+use Prim.Native.Nat.{◌+◌}
 use mathlib.Core.Path.{◌≡◌}
 use lib.ListN.{length}
 use Rattle.record.specs.Records.{fields, fields_from, bar}
 use Rattle.csv_text.specs.Export.{line_of}
 use Rattle.csv_text.proofs.fields_size.Given as goal
 
-abbrev pub invariant-loop-start : goal.invariant-loop-start
-invariant-loop-start l = (l.c.at ≤ length l.r) × (l.n + length (line_of (fields_from bar l.c.at l.r)) ≡ length (line_of (fields bar l.r)))
-
-abbrev pub decreases-loop-start : goal.decreases-loop-start
-decreases-loop-start l = length l.r - l.c.at
+abbrev pub invariant-loop-field : goal.invariant-loop-field
+invariant-loop-field l =
+    (l.field-iterator.sep ≡ bar) × (l.field-iterator.bytes.now ≡ l.r)
+    × (l.n + length (line_of (fields_from bar l.field-iterator.at l.r)) ≡ length (line_of (fields bar l.r)))

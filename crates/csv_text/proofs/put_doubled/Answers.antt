@@ -11,23 +11,21 @@ use Rattle.csv_text.proofs.put_doubled.Goals as goal
 pub put_byte-e-requires : goal.put_byte-e-requires
 put_byte-e-requires c =
     let a = c.args in
-    let l = c.loop-i in
+    let l = c.loop-b in
     let x = a.x.now in
-    goes_room (doubled (get_or x l.i 0 ∷ [])) (doubled (drop (l.i + 1) x)) (goes_as l.invariant.1 (doubled_next x l.i (omega arith)))
+    goes_room (doubled (get_or x l.b-index 0 ∷ [])) (doubled (drop (l.b-index + 1) x)) (goes_as l.invariant (doubled_next x l.b-index (omega arith)))
 
-pub loop-i-preserved : goal.loop-i-preserved
-loop-i-preserved c =
+pub loop-b-preserved : goal.loop-b-preserved
+loop-b-preserved c =
     let a = c.args in
-    let l = c.loop-i in
+    let l = c.loop-b in
     let p = c.put_byte-e in
-    let x = a.x.now in (
-      omega arith,
-      goes_part (doubled (get_or x l.i 0 ∷ [])) (doubled (drop (l.i + 1) x)) p.new.out p.result (goes_as l.invariant.1 (doubled_next x l.i (omega arith)))
-          p.ensures.0 p.ensures.1,
-    )
+    let x = a.x.now in
+    goes_part (doubled (get_or x l.b-index 0 ∷ [])) (doubled (drop (l.b-index + 1) x)) p.new.out p.result
+    (goes_as l.invariant (doubled_next x l.b-index (omega arith))) p.ensures.0 p.ensures.1
 
 pub returns : goal.returns
 returns c =
     let a = c.args in
-    let l = c.loop-i in
-    goes_done (goes_as l.invariant.1 (doubled_end a.x.now l.i (omega arith)))
+    let l = c.loop-b in
+    goes_done (goes_as l.invariant (doubled_end a.x.now l.b-index (omega arith)))

@@ -8,4 +8,4 @@ use Rattle.drill.proofs.drill_file.Goals as goal
 pub run-requires : goal.run-requires
 run-requires g c =
     let a = c.args in
-    good_fits (asked a.flow.now) a.file.now c.in-Accepted.records (sym c.judge.ensures ∙ ap paper c.in-Accepted.is)
+    good_fits (asked a.flow.now) a.file.now c.in-Ok.records (sym c.judge.ensures ∙ ap paper c.in-Ok.is)

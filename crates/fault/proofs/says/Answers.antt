@@ -3,7 +3,6 @@ use mathlib.Core.Path.{◌≡◌, refl, sym, ap, ◌∙◌}
 use mathlib.Core.Bool.{false}
 use mathlib.Core.List.{[]}
 use Prim.Native.Nat.{ℕ}
-use Rattle.record.specs.Records.{field, IsPart}
 use Rattle.record.proofs.Search.{field_stands, field_absent}
 use Rattle.number.specs.Numbers.{spelled, plain}
 use Rattle.fault.proofs.says.Goals as goal
@@ -13,15 +12,19 @@ none-spelled : (v : ℕ) → spelled v [] ≡ false
 unfolding spelled plain
 none-spelled v = refl
 
-pub returns-in_default : goal.returns-in_default
-returns-in_default c =
+pub of-requires : goal.of-requires
+of-requires c =
     let a = c.args in
-    let none = field_absent a.sep a.k a.r.now (c.in_default.ensures) in
-    sym (ap (spelled a.v) none ∙ none-spelled a.v)
+    let here = field_stands a.sep a.k a.r.now c.in-Some.ensures in
+    (here.ordered, here.within)
 
-pub returns : goal.returns
-returns c =
-    let here : let a = c.args in IsPart a.r.now c.in-At.start c.in-At.end (field a.sep a.k a.r.now) = let a = c.args in
-    field_stands a.sep a.k a.r.now (c.in-At.ensures) in
+pub returns-in-Some : goal.returns-in-Some
+returns-in-Some c =
     let a = c.args in
-    c.spells.ensures ∙ ap (spelled a.v) here.is
+    let here = field_stands a.sep a.k a.r.now c.in-Some.ensures in
+    c.spells.ensures ∙ ap (spelled a.v) (c.of.ensures ∙ here.is)
+
+pub returns-in-None : goal.returns-in-None
+returns-in-None c =
+    let a = c.args in
+    sym (ap (spelled a.v) (field_absent a.sep a.k a.r.now c.in-None.ensures) ∙ none-spelled a.v)

@@ -1,20 +1,14 @@
 -- The names written so far and those that the rows from k on will give are all the followers. Assumes nothing.
 use Prim.Native.Nat.{◌+◌, ◌*◌, ◌≤◌, ◌<◌}
-use mathlib.Core.Path.{refl}
 use mathlib.Core.List.{[]}
 use native.Mathlib.Omega.{arith}
 use lib.ListN.{length}
 use borrow.Author.Rules.{rules}
 use Rattle.layout.specs.Numbers.{row_count, layout_of}
 use Rattle.flow.specs.ByTable.{followers_by}
-use Rattle.flow.proofs.Listing.{written_none, written_all}
+use Rattle.flow.proofs.Listing.{written_all}
 use Rattle.flow.proofs.Followers.{followers_counts, followers_next, followers_done}
 use Rattle.flow.proofs.put_followers.Goals as goal
-
-pub loop-k-init : goal.loop-k-init
-loop-k-init c =
-    let a = c.args in
-    (c.row_count-rows.ensures, omega arith, refl, λ fixed. written_none (followers_by (layout_of a.t.now fixed) a.last) a.out.now)
 
 pub loop-k-preserved : goal.loop-k-preserved
 loop-k-preserved c =

@@ -1,7 +1,9 @@
 -- Why judge_records is right: the state is the summary of the records passed and the slots say their keys, so that what is left to judge gives the answer of the whole.
-use Prim.Native.Nat.{ℕ, ◌≤◌, ◌+◌, ◌-◌}
+use Prim.Native.Nat.{ℕ, ◌+◌, ◌-◌}
+use mathlib.Core.Path.{◌≡◌, ◌∙◌}
 use mathlib.Core.List.{List}
 use lib.ListN.{drop, take}
+use borrow.Author.Rules.{rules}
 use Rattle.record.specs.Step.{IsRecord}
 use Rattle.layout.specs.Numbers.{layout_of}
 use Rattle.layout.proofs.Names.{kind_most}
@@ -11,47 +13,51 @@ use Rattle.place.proofs.Lies.{inner}
 use Rattle.judge.proofs.Files.{Kept, kept_none, kept_next, kept_stop, kept_done, kind_small}
 use Rattle.judge.proofs.judge_records.Goals as goal
 
-pub loop-start-init : goal.loop-start-init
-loop-start-init c = kept_none _ _ _
+pub loop-record-init : goal.loop-record-init
+loop-record-init c =
+    let bytes : c.into_iter-record-iterator.result.bytes.now ≡ c.args.f.now = search rules in
+    let at : c.into_iter-record-iterator.result.at ≡ 0 = search rules in
+    (bytes, rw at (kept_none _ _ _))
 
-pub returns-in_default : goal.returns-in_default
-returns-in_default c =
-    let l = c.loop-start in
+pub returns : goal.returns
+returns c =
     let a = c.args in
-    kept_done a.sep (layout_of a.t.now a.fixed.now) a.f.now l.st l.slots l.records.at l.invariant
-    (c.in_default.ensures)
+    let l = c.loop-record in
+    kept_done a.sep (layout_of a.t.now a.fixed.now) a.f.now l.st l.slots l.record-iterator.at l.invariant.1 (rw l.invariant.0 at c.in-None.ensures.steps.1)
 
-pub returns-in-Stop : goal.returns-in-Stop
-returns-in-Stop c =
-    let stepped : IsRecord c.args.f.now c.loop-start.records.at c.in-Record.start c.in-Record.end c.in-Record.next.at = c.in-Record.ensures in
-    let found : List ℕ = take (c.in-Record.end - c.in-Record.start) (drop c.in-Record.start c.args.f.now) in
-    let l = c.loop-start in
+pub returns-in-Err : goal.returns-in-Err
+returns-in-Err c =
     let a = c.args in
-    kept_stop a.sep (layout_of a.t.now a.fixed.now) a.f.now l.st l.slots l.records.at l.invariant
-    found _ stepped.splits c.in-Stop.number c.in-Stop.field
-    (c.in-Stop.ensures)
+    let l = c.loop-record in
+    let stepped : IsRecord a.f.now l.record-iterator.at c.in-Some.record.start c.in-Some.record.end c.next.new.self.at = rw l.invariant.0 at c.in-Some.ensures.steps.1 in
+    let found : List ℕ = take (c.in-Some.record.end - c.in-Some.record.start) (drop c.in-Some.record.start a.f.now) in
+    kept_stop a.sep (layout_of a.t.now a.fixed.now) a.f.now l.st l.slots l.record-iterator.at l.invariant.1
+    found _ stepped.splits c.in-Err.fault (rw c.of.ensures at c.in-Err.ensures)
 
 pub put-requires : goal.put-requires
 put-requires c =
-    let stepped : IsRecord c.args.f.now c.loop-start.records.at c.in-Record.start c.in-Record.end c.in-Record.next.at = c.in-Record.ensures in
-    let found : List ℕ = take (c.in-Record.end - c.in-Record.start) (drop c.in-Record.start c.args.f.now) in
-    let passed : let a = c.args in let l = c.loop-start in let g = layout_of a.t.now a.fixed.now in Passed a.sep g l.st (key_in_slots g a.f.now l.slots) found c.in-Pass.after c.in-Pass.key_from c.in-Pass.key_to = c.in-Pass.ensures in
-    let small : c.in-Pass.after.last ≤ 32 = let s = stepped in
-    let l = c.loop-start in
     let a = c.args in
-    kind_small a.sep (layout_of a.t.now a.fixed.now) a.f.now l.st l.slots l.records.at l.invariant
-    found _ s.splits s.onward s.next_within c.in-Pass.after c.in-Pass.key_from c.in-Pass.key_to passed (kind_most _ _ _) in
-    (small, c.loop-start.invariant.size)
+    let l = c.loop-record in
+    let g = layout_of a.t.now a.fixed.now in
+    let s : IsRecord a.f.now l.record-iterator.at c.in-Some.record.start c.in-Some.record.end c.next.new.self.at = rw l.invariant.0 at c.in-Some.ensures.steps.1 in
+    let found : List ℕ = take (c.in-Some.record.end - c.in-Some.record.start) (drop c.in-Some.record.start a.f.now) in
+    let p = c.in-Ok.passed in
+    let passed : Passed a.sep g l.st (key_in_slots g a.f.now l.slots) found p.next p.key.start p.key.end = rw c.of.ensures at c.in-Ok.ensures in
+    (kind_small a.sep g a.f.now l.st l.slots l.record-iterator.at l.invariant.1 found _ s.splits s.onward s.next_within p.next p.key.start p.key.end passed (kind_most _ _ _), l.invariant.1.size)
 
-pub loop-start-preserved : goal.loop-start-preserved
-loop-start-preserved c =
-    let stepped : IsRecord c.args.f.now c.loop-start.records.at c.in-Record.start c.in-Record.end c.in-Record.next.at = c.in-Record.ensures in
-    let found : List ℕ = take (c.in-Record.end - c.in-Record.start) (drop c.in-Record.start c.args.f.now) in
-    let passed : let a = c.args in let l = c.loop-start in let g = layout_of a.t.now a.fixed.now in Passed a.sep g l.st (key_in_slots g a.f.now l.slots) found c.in-Pass.after c.in-Pass.key_from c.in-Pass.key_to = c.in-Pass.ensures in
-    let after : let a = c.args in let l = c.loop-start in Kept a.sep (layout_of a.t.now a.fixed.now) a.f.now c.in-Pass.after (put_in l.slots c.in-Pass.after.last c.in-Pass.after.count (c.in-Record.start + c.in-Pass.key_from) (c.in-Pass.key_to - c.in-Pass.key_from)) c.in-Record.next.at = let s = stepped in
+pub loop-record-preserved : goal.loop-record-preserved
+loop-record-preserved c =
     let a = c.args in
-    let l = c.loop-start in
-    kept_next a.sep (layout_of a.t.now a.fixed.now) a.f.now l.st l.slots l.records.at l.invariant
-    found _ s.splits s.onward s.next_within c.in-Pass.after c.in-Pass.key_from c.in-Pass.key_to passed (kind_most _ _ _)
-    (c.in-Record.start + c.in-Pass.key_from) (c.in-Pass.key_to - c.in-Pass.key_from) (inner a.f.now c.in-Record.start c.in-Record.end c.in-Pass.key_from c.in-Pass.key_to _ passed.key) in
-    rw c.put.ensures after
+    let l = c.loop-record in
+    let g = layout_of a.t.now a.fixed.now in
+    let step = c.in-Some.ensures.steps in
+    let s : IsRecord a.f.now l.record-iterator.at c.in-Some.record.start c.in-Some.record.end c.next.new.self.at = rw l.invariant.0 at step.1 in
+    let r = c.in-Some.record in
+    let found : List ℕ = take (r.end - r.start) (drop r.start a.f.now) in
+    let p = c.in-Ok.passed in
+    let passed : Passed a.sep g l.st (key_in_slots g a.f.now l.slots) found p.next p.key.start p.key.end = rw c.of.ensures at c.in-Ok.ensures in
+    let after : Kept a.sep g a.f.now p.next (put_in l.slots p.next.last p.next.count (r.start + p.key.start) (p.key.end - p.key.start)) c.next.new.self.at =
+    kept_next a.sep g a.f.now l.st l.slots l.record-iterator.at l.invariant.1
+    found _ s.splits s.onward s.next_within p.next p.key.start p.key.end passed (kind_most _ _ _)
+    (r.start + p.key.start) (p.key.end - p.key.start) (inner a.f.now r.start r.end p.key.start p.key.end _ passed.key) in
+    (step.0 ∙ l.invariant.0, rw c.put.ensures after)

@@ -1,19 +1,16 @@
--- Four stores, each within the lent bytes. Assumes nothing.
+-- Four bytes are put at once. Assumes nothing.
+use Prim.Native.Nat.{ℕ, ◌+◌, ◌-◌}
 use native.Mathlib.Omega.{arith}
-use lib.ListN.{length-set}
-use Rattle.legible.proofs.Showing.{four_set}
+use mathlib.Core.Path.{◌≡◌, sym, ap₂, ◌∙◌}
+use mathlib.Core.List.{[], ◌∷◌, append_assoc}
+use lib.ListN.{take, drop}
+use lib.Seq.{drop-drop, sets-eq}
+use Rattle.legible.specs.Shown.{escaped}
 use Rattle.legible.proofs.put_escaped.Goals as goal
-
-pub bounds-out-at-2 : goal.bounds-out-at-2
-bounds-out-at-2 c = simp length-set (omega arith)
-
-pub bounds-out-at-3 : goal.bounds-out-at-3
-bounds-out-at-3 c = simp length-set (omega arith)
-
-pub bounds-out-at-4 : goal.bounds-out-at-4
-bounds-out-at-4 c = simp length-set (omega arith)
 
 pub returns : goal.returns
 returns c =
     let a = c.args in
-    four_set a.out.now a.at a.b _ _ c.hex_digit-high.ensures c.hex_digit-low.ensures
+    let four : c.copy_from_slice.new.self ≡ escaped c.args.b = c.copy_from_slice.ensures.after ∙ ap₂ (λ (h l : ℕ). 0x5C ∷ 0x78 ∷ h ∷ l ∷ []) c.hex_digit.ensures c.hex_digit-2.ensures in
+    let k : c.args.at + 4 - c.args.at ≡ 4 = omega arith in
+    rw (four, k, drop-drop 4 a.at a.out.now) (sym (append_assoc (take a.at a.out.now) (escaped a.b) (drop (a.at + 4) a.out.now)) ∙ sym (sets-eq (escaped a.b) a.out.now a.at c.requires))

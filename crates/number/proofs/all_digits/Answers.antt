@@ -1,33 +1,14 @@
--- The rest from i on is all digits where the whole is. Assumes nothing.
-use mathlib.Core.Path.{◌≡◌, sym, ◌∙◌}
-use mathlib.Core.Bool.{false}
-use Prim.Native.Nat.{ℕ, ◌≤◌, ◌<◌}
-use borrow.Author.Rules.{rules}
-use borrow.Author.Tests.{le-leb, lt-leb}
+-- Each byte is tested by the definition of a digit. Assumes nothing.
+use mathlib.Core.Path.{◌∙◌}
+use Rattle.std.proofs.Common.{rules, tests}
+use Rattle.std.proofs.lemmas.Iterator.{YieldsList-from_slice}
+use Rattle.std.proofs.lemmas.Iterator.Search.{all_from_yields_List}
 use Rattle.text.specs.Characters.{is_digit}
-use Rattle.text.proofs.Lists.{all_fails, all_next}
-use Rattle.number.proofs.Digits.{digit_is}
+use Rattle.text.proofs.Lists.{list_all_is}
 use Rattle.number.proofs.all_digits.Goals as goal
 
-low : (b : ℕ) → b < 48 → is_digit b ≡ false
+pub returns : goal.returns
 unfolding is_digit
-low b h = rw (lt-leb _ _ h)
-
-high : (b : ℕ) → 48 ≤ b → 57 < b → is_digit b ≡ false
-unfolding is_digit
-high b k h = rw (le-leb _ _ k, lt-leb _ _ h)
-
-pub returns-then-s-i-lt48 : goal.returns-then-s-i-lt48
-returns-then-s-i-lt48 c =
-    let l = c.loop-i in
-    sym (sym l.invariant.1 ∙ all_fails is_digit _ l.i c.loop-i-test.true (low _ c.if-s-i-lt48.true))
-
-pub returns-then-s-i-gt57 : goal.returns-then-s-i-gt57
-returns-then-s-i-gt57 c =
-    let l = c.loop-i in
-    sym (sym l.invariant.1 ∙ all_fails is_digit _ l.i c.loop-i-test.true (high _ c.if-s-i-lt48.false c.if-s-i-gt57.true))
-
-pub loop-i-preserved : goal.loop-i-preserved
-loop-i-preserved c =
-    let l = c.loop-i in
-    (search rules, all_next is_digit _ l.i c.loop-i-test.true (digit_is _ c.if-s-i-lt48.false c.if-s-i-gt57.false) ∙ l.invariant.1)
+returns c =
+    all_from_yields_List is_digit _ _ _ c.all.ensures.ran (YieldsList-from_slice c.args.s.now cc) (λ x b q k. search (rules, tests))
+    ∙ list_all_is is_digit c.args.s.now

@@ -8,18 +8,18 @@ use Rattle.number.proofs.read_digits.Goals as goal
 
 pub overflow_mul-n : goal.overflow_mul-n
 overflow_mul-n c =
-    let room : (c.loop-i.n + 2) * 10 ≤ 2 * 10 ^ 18 = let l = c.loop-i in
-    room_here _ _ l.n l.marks l.i l.invariant c.loop-i-test.true in
+    let room : (c.loop-byte.n + 2) * 10 ≤ 2 * 10 ^ 18 = let l = c.loop-byte in
+    room_here _ _ l.n l.marks l.byte-index l.invariant c.loop-byte-test.true in
     omega (arith, room)
 
 pub overflow_add-n : goal.overflow_add-n
 overflow_add-n c =
-    let room : (c.loop-i.n + 2) * 10 ≤ 2 * 10 ^ 18 = let l = c.loop-i in
-    room_here _ _ l.n l.marks l.i l.invariant c.loop-i-test.true in
-    omega (arith, room, mod-lt c.wide-b.result {m = 16} (lit< tt))
+    let room : (c.loop-byte.n + 2) * 10 ≤ 2 * 10 ^ 18 = let l = c.loop-byte in
+    room_here _ _ l.n l.marks l.byte-index l.invariant c.loop-byte-test.true in
+    omega (arith, room, mod-lt c.from-b.result {m = 16} (lit< tt))
 
-pub loop-i-preserved : goal.loop-i-preserved
-loop-i-preserved c =
-    let byte : c.wide-b.result < 256 = omega (arith, c.wide-b.ensures, c.shared_slice_known-in-loop-i-1.given c.loop-i.i) in
-    let l = c.loop-i in
-    pass_next _ _ l.n l.marks l.i l.invariant c.wide-b.result c.wide-b.ensures byte c.loop-i-test.true
+pub loop-byte-preserved : goal.loop-byte-preserved
+loop-byte-preserved c =
+    let byte : c.from-b.result < 256 = omega (arith, c.from-b.ensures, c.type_inv.d c.loop-byte.byte-index) in
+    let l = c.loop-byte in
+    pass_next _ _ l.n l.marks l.byte-index l.invariant c.from-b.result c.from-b.ensures byte c.loop-byte-test.true

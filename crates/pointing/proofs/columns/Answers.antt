@@ -1,15 +1,15 @@
 -- Each turn shows one byte more.
-use mathlib.Core.Path.{◌∙◌}
-use native.Mathlib.Omega.{arith}
-use lib.ListN.{set}
-use Rattle.pointing.specs.Shown.{column_of}
-use Rattle.pointing.proofs.Each.{turned_next}
+use Rattle.std.proofs.Common.{◌++◌, ◌∷◌, [], add-one, arith}
+use mathlib.Core.List.{map-append}
+use lib.ListN.{length-set}
+use lib.Seq.{take-suc, take-suc-set}
 use Rattle.pointing.proofs.columns.Goals as goal
 
 pub loop-i-preserved : goal.loop-i-preserved
 loop-i-preserved c =
     let part = c.args.part.now in
     let l = c.loop-i in (
-      omega arith,
-      (λ j. set (l.invariant.1 j) l.i (c.column.ensures j)) ∙ turned_next column_of part _ l.i (omega arith) (omega arith),
+      simp length-set l.invariant.0,
+      rw (add-one l.i, take-suc-set l.line l.i c.column.result (omega arith), take-suc part l.i 0 (omega arith), map-append)
+          (λ j. l.invariant.1 j ++ c.column.ensures j ∷ []),
     )

@@ -6,4 +6,4 @@ pub returns : goal.returns
 returns c =
     let low = c.hex-k in
     let high = capital_hex c.args.n low.result _ low.ensures.in_bounds.0 low.ensures.len low.ensures.digits in
-    rw c.to_capitals.ensures (record { prefix_len = high.0; hex = high.1 })
+    rw c.make_ascii_uppercase.ensures.after (record { prefix_len = high.0; hex = high.1 })

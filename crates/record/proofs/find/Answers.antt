@@ -13,9 +13,9 @@ pub loop-i-preserved : goal.loop-i-preserved
 loop-i-preserved c =
     let a = c.args in
     let i = c.loop-i.i in
-    (omega arith, omega (arith, run_next a.sep a.s.now i (omega arith) c.if-s-i.false))
+    omega (arith, run_next a.sep a.s.now i (omega arith) c.if-s-i.false)
 
 pub returns : goal.returns
 returns c =
     let a = c.args in
-    omega (arith, run_end a.sep a.s.now c.loop-i.i c.loop-i-test.false)
+    omega (arith, run_end a.sep a.s.now c.loop-i.i (omega arith))

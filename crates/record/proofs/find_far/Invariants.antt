@@ -5,8 +5,9 @@ use lib.ListN.{length, drop}
 use Rattle.record.specs.Records.{run}
 use Rattle.record.proofs.find_far.Given as goal
 
-abbrev pub invariant-loop-i : goal.invariant-loop-i
-invariant-loop-i l = (l.i ≤ length l.s) × (l.i + run l.sep (drop l.i l.s) ≡ l.at + run l.sep (drop l.at l.s))
+abbrev pub invariant-loop-eight : goal.invariant-loop-eight
+invariant-loop-eight l = (length l.rest ≤ length l.s) × (l.rest ≡ drop (length l.s - length l.rest) l.s)
+    × (length l.s - length l.rest + run l.sep l.rest ≡ l.at + run l.sep (drop l.at l.s))
 
-abbrev pub decreases-loop-i : goal.decreases-loop-i
-decreases-loop-i l = length l.s - l.i
+abbrev pub decreases-loop-eight : goal.decreases-loop-eight
+decreases-loop-eight l = length l.rest

@@ -14,7 +14,7 @@ pub loop-i-preserved : goal.loop-i-preserved
 loop-i-preserved c =
     let t = c.args.text.now in
     let l = c.loop-i in
-    (omega arith, omega (arith, bare_next t l.i (omega arith) (sym c.is_bare.ensures ∙ c.if-not-is_bare.false)))
+    omega (arith, bare_next t l.i (omega arith) (sym c.is_bare.ensures ∙ c.if-not-is_bare.false))
 
 pub returns : goal.returns
 returns c =

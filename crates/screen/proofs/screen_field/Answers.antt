@@ -4,6 +4,8 @@ use borrow.Author.Tests.{lt-leb, le-leb}
 use Rattle.field.specs.Judge.{field_judged}
 use Rattle.value.specs.Value.{paper}
 use Rattle.value.specs.declared.Value.{Value}
+use Rattle.place.specs.declared.Refusal.{Refusal}
+use Rattle.std.specs.Prelude.{Result}
 use Rattle.screen.specs.Numbers.{value_cells, field_cells, field_asked}
 use Rattle.screen.proofs.FieldValues.{field_value_lem}
 use Rattle.screen.proofs.screen_field.Goals as goal
@@ -25,5 +27,5 @@ returns c =
     let mark = c.mark_coded.ensures a.fixed.now in
     let answer = c.judge-a in
     rw (le-leb _ 7 c.if-kind-gt7.false, le-leb _ 2 c.if-mark-gt2.false)
-    (c.value_cells.ensures s ∙ ap (λ (v : Value). value_cells (paper s v)) c.as_value.ensures
+    (c.value_cells.ensures s ∙ ap (λ (v : Result Value Refusal). value_cells (paper s v)) c.as_value.ensures
     ∙ field_value_lem s s answer.result ∙ ap field_cells (answer.ensures ∙ (λ i. field_judged (type i) (mark i) s)))

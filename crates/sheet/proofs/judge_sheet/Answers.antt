@@ -27,5 +27,5 @@ pub returns : goal.returns
 returns c =
     let a = c.args in
     sheet_judged (layout_of a.t.now a.fixed.now) a.sheet.now c.if-sheet-gt1048000.false (sym c.has_byte.ensures ∙ c.if-has_byte.false) c.requires
-    (sym c.lines_ended.ensures ∙ c.if-not-lines_ended.false) (λ i. omega (arith, c.shared_slice_known-3-1.given i))
+    (sym c.lines_ended.ensures ∙ c.if-not-lines_ended.false) (λ i. omega (arith, c.type_inv.sheet i))
     c.judge_lines.result c.judge_lines.ensures

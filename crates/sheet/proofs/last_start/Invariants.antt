@@ -7,6 +7,3 @@ use Rattle.sheet.proofs.last_start.Given as goal
 
 abbrev pub invariant-loop-i : goal.invariant-loop-i
 invariant-loop-i l = (l.i ≤ length l.f) × (length (records (drop l.i l.f)) ≡ 1)
-
-abbrev pub decreases-loop-i : goal.decreases-loop-i
-decreases-loop-i l = l.i

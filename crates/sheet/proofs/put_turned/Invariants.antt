@@ -1,12 +1,9 @@
 -- Why put_turned is right: the bytes from i on are left to put, turned.
-use lib.ListN.{length, drop}
-use Prim.Native.Nat.{◌≤◌, ◌+◌, ◌-◌}
+use lib.ListN.{drop}
+use Prim.Native.Nat.{◌+◌}
 use Rattle.record.specs.Records.{turned}
 use Rattle.sheet.proofs.Puts.{Goes}
 use Rattle.sheet.proofs.put_turned.Given as goal
 
 abbrev pub invariant-loop-i : goal.invariant-loop-i
-invariant-loop-i l = (l.i ≤ length l.s) × Goes l.initial.out l.at (turned l.from l.to l.s) l.out (l.at + l.i) (turned l.from l.to (drop l.i l.s))
-
-abbrev pub decreases-loop-i : goal.decreases-loop-i
-decreases-loop-i l = length l.s - l.i
+invariant-loop-i l = Goes l.initial.out l.at (turned l.from l.to l.s) l.out (l.at + l.i) (turned l.from l.to (drop l.i l.s))

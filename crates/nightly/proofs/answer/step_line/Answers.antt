@@ -7,5 +7,5 @@ use Rattle.nightly.proofs.answer.step_line.Goals as goal
 pub print_follow-requires : goal.print_follow-requires
 print_follow-requires g c =
     let words = c.args.flow.now in
-    let told = c.in-Through.ensures in
+    let told = c.in-Ok.ensures in
     follow_few (asked words) (asked_proper words) _ _ _ _ told

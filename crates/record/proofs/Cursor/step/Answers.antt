@@ -3,8 +3,8 @@ use native.Mathlib.Omega.{arith}
 use Rattle.record.proofs.Cursors.{record_mid, record_last, records_end}
 use Rattle.record.proofs.Cursor.step.Goals as goal
 
-pub returns-then-s-at : goal.returns-then-s-at
-returns-then-s-at c = records_end _ _ c.if-s-at.true
+pub returns-then-s-start : goal.returns-then-s-start
+returns-then-s-start c = records_end _ _ c.if-s-start.true
 
 pub returns-then-end-s : goal.returns-then-end-s
 returns-then-end-s c =

@@ -5,4 +5,4 @@ use Rattle.rig.proofs.asking.value_in.Goals as goal
 pub refuse-requires : goal.refuse-requires
 refuse-requires g c =
     let a = c.args in
-    valued_placed a.flow.now a.file.now a.«record» a.field c.in-Refused.r (c.in-Refused.ensures.0)
+    valued_placed a.flow.now a.file.now a.«record» a.field c.in-Err.r (c.in-Err.ensures.0)

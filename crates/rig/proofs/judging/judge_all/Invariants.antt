@@ -1,12 +1,6 @@
--- Each turn goes on to a later word, and the tally counts the files before it.
-use Prim.Native.Nat.{◌+◌, ◌-◌, ◌≤◌}
-use mathlib.Core.Path.{◌≡◌}
-use mathlib.Core.Bool.{true}
-use lib.ListN.{length}
+-- The tally counts the files of the words before the next.
+use Rattle.std.proofs.Common.{◌≡◌, ◌+◌}
 use Rattle.rig.proofs.judging.judge_all.Given as goal
 
 abbrev pub invariant-loop-i : goal.invariant-loop-i
-invariant-loop-i g l = (l.t.written ≡ true) × (l.t.accepted + l.t.refused + l.t.unread + 3 ≡ l.i) × (l.i ≤ l.count) × (length l.room ≡ length l.initial.room)
-
-abbrev pub decreases-loop-i : goal.decreases-loop-i
-decreases-loop-i g l = l.count - l.i
+invariant-loop-i g l = l.t.accepted + l.t.refused + l.t.unread + 3 ≡ l.i

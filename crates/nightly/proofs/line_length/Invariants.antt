@@ -1,9 +1,0 @@
--- `line_length` is within the bytes and ends: its index never passes their end.
-use Rattle.std.proofs.Common.{◌-◌, ◌≤◌, length}
-use Rattle.nightly.proofs.line_length.Given as goal
-
-abbrev pub invariant-loop-i : goal.invariant-loop-i
-invariant-loop-i l = l.i ≤ length l.s
-
-abbrev pub decreases-loop-i : goal.decreases-loop-i
-decreases-loop-i l = length l.s - l.i
