@@ -69,9 +69,3 @@ some_go b false = omega arith
 pub doubled_some : (b : ℕ) → 1 ≤ length (doubled (b ∷ []))
 unfolding doubled
 doubled_some b = some_go b (eqb b quote)
-
-pub size_next : (x : List ℕ) (i : ℕ) → i < length x → length (doubled (drop i x)) ≡ length (doubled (get_or x i 0 ∷ [])) + length (doubled (drop (i + 1) x))
-size_next x i h = ap length (doubled_next x i h) ∙ length-append (doubled (get_or x i 0 ∷ [])) (doubled (drop (i + 1) x))
-
-pub size_quoted : (x : List ℕ) → quoted x ≡ true → length (field_of x) ≡ length (doubled x) + 2
-size_quoted x e = omega (arith, ap length (field_quoted x e), length-append (doubled x) (quote ∷ []))

@@ -1,6 +1,6 @@
 pub mod Doubling
 pub mod Lines
-pub mod Putting
+pub mod Taken
 pub mod Handing
 pub mod Taking
 pub mod Computed

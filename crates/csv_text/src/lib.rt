@@ -2,12 +2,13 @@
 #![tactic(auto)]
 
 ghost use Rattle.std.specs.Prelude.{◌≡◌, List, ◌∷◌, [], ℕ, ◌+◌, ◌≤◌, length};
-ghost use Rattle.record.specs.Records.{records, fields, bar};
+ghost use Rattle.record.specs.Records.{records, fields, turned, bar};
 ghost use Rattle.flow.specs.Editions.{asked};
 ghost use Rattle.sheet.specs.Code.{put};
 ghost use Rattle.sheet.specs.Write.{paper};
 ghost use Rattle.csv_text.specs.Export.{quoted as quoted_of, doubled, field_of, line_of, text_of, rows_of, Exported};
 ghost use Rattle.csv_text.specs.Import.{Imported};
+ghost use Rattle.csv_text.specs.Code.{SinkLaws, CountRoom, Counts, counting_laws, PutRoom, Puts, putting_laws};
 
 use place::Refusal;
 use record::{BAR, FEED, FieldSpans, RecordSpans};
@@ -21,61 +22,145 @@ fn quoted(x: &[u8]) -> bool
     sheet::has_byte(x, COMMA) || sheet::has_byte(x, QUOTE)
 }
 
-// How many bytes one byte takes in a quoted field.
-#[tactic(auto, unfolding(crate::specs::Export::doubled))]
-fn times(b: u8) -> usize
-    ensures { result ≡ length (doubled (b ∷ [])) }
-{
-    if b == QUOTE { 2 } else { 1 }
+// What takes the bytes of a text, one after the other.
+trait Sink {
+    // It can still take so many bytes.
+    ghost has_room: { Self → ℕ → Type 0 };
+
+    // The bytes that it took from one state to another.
+    ghost took: { Self → List ℕ → Self → Type 0 };
+
+    // Takes one byte.
+    fn put(&mut self, b: u8)
+        requires { has_room self.old 1 }
+        ensures { took self.old (b ∷ []) self.new };
+
+    // Takes the bytes of s, each `from` turned to `to`.
+    fn put_turned(&mut self, s: &[u8], from: u8, to: u8)
+        requires { has_room self.old (length s.now) }
+        ensures { took self.old (turned from to s.now) self.new };
+
+    // Bytes taken one after the other are taken together, and each takes its room.
+    ghost laws: { SinkLaws has_room took };
 }
 
-// How many bytes a field takes with its quotation marks doubled.
-fn doubled_size(x: &[u8]) -> usize
-    requires { length (doubled x.now) ≤ 9000000 }
-    ensures { result ≡ length (doubled x.now) }
-{
-    let mut n = 0;
-    for b in x {
-        n += times(*b);
+// Counts the bytes and keeps none.
+#[derive(Drop)]
+struct Counting {
+    bytes: usize,
+}
+
+impl Sink for Counting {
+    ghost has_room = { CountRoom };
+
+    ghost took = { Counts };
+
+    ghost laws = { counting_laws };
+
+    fn put(&mut self, _b: u8) {
+        self.bytes += 1;
     }
-    n
+
+    fn put_turned(&mut self, s: &[u8], _from: u8, _to: u8) {
+        self.bytes += s.len();
+    }
 }
 
-// How many bytes a field takes.
-fn field_size(x: &[u8]) -> usize
-    requires { length (field_of x.now) ≤ 9000000 }
-    ensures { result ≡ length (field_of x.now) }
+// Puts the bytes among the lent ones, from `at` on.
+#[derive(Drop)]
+struct Putting<'a> {
+    out: &'a mut [u8],
+    at: usize,
+}
+
+impl<'a> Sink for Putting<'a> {
+    ghost has_room = { PutRoom };
+
+    ghost took = { Puts };
+
+    ghost laws = { putting_laws };
+
+    fn put(&mut self, b: u8) {
+        self.out[self.at] = b;
+        self.at += 1;
+    }
+
+    fn put_turned(&mut self, s: &[u8], from: u8, to: u8) {
+        sheet::put_turned(self.out, self.at, s, from, to);
+        self.at += s.len();
+    }
+}
+
+// One byte of a quoted field; a quotation mark stands twice.
+fn put_byte<S: Sink>(sink: &mut S, b: u8)
+    requires { S.has_room sink.old (length (doubled (b ∷ []))) }
+    ensures { S.took sink.old (doubled (b ∷ [])) sink.new }
+{
+    sink.put(b);
+    if b == QUOTE {
+        sink.put(b);
+    }
+}
+
+// The bytes of a field with its quotation marks doubled.
+fn put_doubled<S: Sink>(sink: &mut S, x: &[u8])
+    requires { S.has_room sink.old (length (doubled x.now)) }
+    ensures { S.took sink.old (doubled x.now) sink.new }
+{
+    for b in x {
+        put_byte(sink, *b);
+    }
+}
+
+// A field: as it is, or between quotation marks with its own doubled.
+fn put_field<S: Sink>(sink: &mut S, x: &[u8])
+    requires { S.has_room sink.old (length (field_of x.now)) }
+    ensures { S.took sink.old (field_of x.now) sink.new }
 {
     if !quoted(x) {
-        return x.len();
+        sink.put_turned(x, QUOTE, QUOTE);
+        return;
     }
-    doubled_size(x) + 2
+    sink.put(QUOTE);
+    put_doubled(sink, x);
+    sink.put(QUOTE);
 }
 
-// How many bytes the line of a record takes, its fields one by one.
-fn fields_size(r: &[u8]) -> usize
-    requires { length (line_of (fields bar r.now)) ≤ 9000000 }
-    ensures { result ≡ length (line_of (fields bar r.now)) }
+// The line of a record, its fields one by one.
+fn put_fields<S: Sink>(sink: &mut S, r: &[u8])
+    requires { S.has_room sink.old (length (line_of (fields bar r.now))) }
+    ensures { S.took sink.old (line_of (fields bar r.now)) sink.new }
 {
-    let mut n = 0;
     for field in FieldSpans::of(BAR, r) {
-        n += field_size(field.of(r));
+        put_field(sink, field.of(r));
         if field.end < r.len() {
-            n += 1;
+            sink.put(COMMA);
         }
     }
-    n
 }
 
-// How many bytes the line of a record takes, without its end. One without comma and quotation mark keeps its length.
-fn line_size(r: &[u8]) -> usize
-    requires { length (line_of (fields bar r.now)) ≤ 9000000 }
-    ensures { result ≡ length (line_of (fields bar r.now)) }
+// The line of a record, without its end. One without comma and quotation mark has no field to quote, and keeps its length.
+fn put_line<S: Sink>(sink: &mut S, r: &[u8])
+    requires { S.has_room sink.old (length (line_of (fields bar r.now))) }
+    ensures { S.took sink.old (line_of (fields bar r.now)) sink.new }
 {
     if !quoted(r) {
-        return r.len();
+        sink.put_turned(r, BAR, COMMA);
+        return;
     }
-    fields_size(r)
+    put_fields(sink, r);
+}
+
+// The text of some records.
+fn put_lines<S: Sink>(sink: &mut S, s: &[u8])
+    requires { S.has_room sink.old (length (text_of (rows_of (records s.now)))) }
+    ensures { S.took sink.old (text_of (rows_of (records s.now))) sink.new }
+{
+    for record in RecordSpans::of(s) {
+        put_line(sink, record.of(s));
+        sink.put(RETURN);
+        sink.put(FEED);
+    }
 }
 
 // How many bytes the text of some records takes.
@@ -83,79 +168,9 @@ fn text_size(s: &[u8]) -> usize
     requires { length (text_of (rows_of (records s.now))) ≤ 9000000 }
     ensures { result ≡ length (text_of (rows_of (records s.now))) }
 {
-    let mut n = 0;
-    for record in RecordSpans::of(s) {
-        n += line_size(record.of(s)) + 2;
-    }
-    n
-}
-
-// One byte of a quoted field put from `at` on; gives the place behind it.
-fn put_byte(out: &mut [u8], at: usize, b: u8) -> usize
-    requires { at + length (doubled (b ∷ [])) ≤ length out.old }
-    ensures { (out.new ≡ put out.old at (doubled (b ∷ []))) × (result ≡ at + length (doubled (b ∷ []))) }
-{
-    out[at] = b;
-    if b == QUOTE {
-        out[at + 1] = b;
-        return at + 2;
-    }
-    at + 1
-}
-
-// The bytes of a field with its quotation marks doubled, put from `at` on.
-fn put_doubled(out: &mut [u8], at: usize, x: &[u8]) -> usize
-    requires { at + length (doubled x.now) ≤ length out.old }
-    ensures { (out.new ≡ put out.old at (doubled x.now)) × (result ≡ at + length (doubled x.now)) }
-{
-    let mut e = at;
-    for b in x {
-        e = put_byte(out, e, *b);
-    }
-    e
-}
-
-// A field put from `at` on: as it is, or between quotation marks with its own doubled.
-fn put_field(out: &mut [u8], at: usize, x: &[u8]) -> usize
-    requires { at + length (field_of x.now) ≤ length out.old }
-    ensures { (out.new ≡ put out.old at (field_of x.now)) × (result ≡ at + length (field_of x.now)) }
-{
-    if !quoted(x) {
-        sheet::put_turned(out, at, x, QUOTE, QUOTE);
-        return at + x.len();
-    }
-    out[at] = QUOTE;
-    let e = put_doubled(out, at + 1, x);
-    out[e] = QUOTE;
-    e + 1
-}
-
-// The line of a record put from `at` on, its fields one by one.
-fn put_fields(out: &mut [u8], at: usize, r: &[u8]) -> usize
-    requires { at + length (line_of (fields bar r.now)) ≤ length out.old }
-    ensures { (out.new ≡ put out.old at (line_of (fields bar r.now))) × (result ≡ at + length (line_of (fields bar r.now))) }
-{
-    let mut e = at;
-    for field in FieldSpans::of(BAR, r) {
-        e = put_field(out, e, field.of(r));
-        if field.end < r.len() {
-            out[e] = COMMA;
-            e += 1;
-        }
-    }
-    e
-}
-
-// The line of a record put from `at` on, without its end. One without comma and quotation mark has no field to quote.
-fn put_line(out: &mut [u8], at: usize, r: &[u8]) -> usize
-    requires { at + length (line_of (fields bar r.now)) ≤ length out.old }
-    ensures { (out.new ≡ put out.old at (line_of (fields bar r.now))) × (result ≡ at + length (line_of (fields bar r.now))) }
-{
-    if !quoted(r) {
-        sheet::put_turned(out, at, r, BAR, COMMA);
-        return at + r.len();
-    }
-    put_fields(out, at, r)
+    let mut counting = Counting { bytes: 0 };
+    put_lines(&mut counting, s);
+    counting.bytes
 }
 
 // The text of some records put at the front.
@@ -163,13 +178,8 @@ fn put_text(out: &mut [u8], s: &[u8])
     requires { length (text_of (rows_of (records s.now))) ≤ length out.old }
     ensures { out.new ≡ put out.old 0 (text_of (rows_of (records s.now))) }
 {
-    let mut e = 0;
-    for record in RecordSpans::of(s) {
-        e = put_line(out, e, record.of(s));
-        out[e] = RETURN;
-        out[e + 1] = FEED;
-        e += 2;
-    }
+    let mut putting = Putting { out, at: 0 };
+    put_lines(&mut putting, s);
 }
 
 // Exports a file for the flow that the words ask for as text in the lent bytes. Any words, any bytes, any room.

@@ -1,11 +1,11 @@
-// Lines of words parted by tabs on standard output, each made in a local array and written by one call.
+// Lines of words parted by tabs on standard output, each made in one piece and written by one call.
 #![tactic(auto)]
 
 ghost use Rattle.std.specs.Prelude.{◌≡◌, ◌≤◌, nat_abs};
 
 use place::Refusal;
 pub use stream::Unwritten;
-use stream::{print, put, put_number};
+use stream::{Line, print};
 
 // Writes a line of a short word and at most five numbers.
 pub fn print_numbers(
@@ -13,13 +13,13 @@ pub fn print_numbers(
     word: &[u8],
     numbers: &[usize],
 ) -> Result<(), Unwritten> {
-    let mut line = [0u8; 128];
-    let mut at = put(&mut line, 0, word);
+    let mut line = Line::<128>::new();
+    line.put(word);
     for n in numbers {
-        at = put_number(&mut line, at, *n);
+        line.put_number(*n);
     }
-    let end = put(&mut line, at, b"\n");
-    print(rt, &line[..end])
+    line.put(b"\n");
+    print(rt, line.as_bytes())
 }
 
 // Writes a line of numbers alone, at most six.
@@ -56,13 +56,13 @@ pub fn print_judged(
 
 // Writes a line of `ok`, 0, the kind of a value and the value, which has at most 512 bytes.
 pub fn print_value(rt: &(impl Print + Eprint), kind: &[u8], value: &[u8]) -> Result<(), Unwritten> {
-    let mut line = [0u8; 640];
-    let at = put(&mut line, 0, b"ok\t0\t");
-    let at = put(&mut line, at, kind);
-    let at = put(&mut line, at, b"\t");
-    let at = put(&mut line, at, value);
-    let at = put(&mut line, at, b"\n");
-    print(rt, &line[..at])
+    let mut line = Line::<640>::new();
+    line.put(b"ok\t0\t");
+    line.put(kind);
+    line.put(b"\t");
+    line.put(value);
+    line.put(b"\n");
+    print(rt, line.as_bytes())
 }
 
 // Writes the line of a value that is a truth, as T or F.
@@ -105,12 +105,10 @@ fn size(n: i64) -> u64
 pub fn print_whole(rt: &(impl Print + Eprint), n: i64) -> Result<(), Unwritten> {
     let mut digits = [0u8; 20];
     let k = io::decimal(size(n), &mut digits);
-    let mut value = [0u8; 21];
+    let mut value = Line::<21>::new();
     if n < 0 {
-        let sign = put(&mut value, 0, b"-");
-        let at = put(&mut value, sign, &digits[..k]);
-        print_value(rt, b"number", &value[..at])
-    } else {
-        print_value(rt, b"number", &digits[..k])
+        value.put(b"-");
     }
+    value.put(&digits[..k]);
+    print_value(rt, b"number", value.as_bytes())
 }

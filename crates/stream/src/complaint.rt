@@ -1,6 +1,7 @@
 // What hinders a program, said on standard error. Where the system's word on it is said too, it comes
 // with the error that the call gave.
-use crate::line::put;
+use crate::line::Line;
+use crate::shown::show_whole;
 use std::fmt::InlineText;
 use std::io::Error;
 
@@ -20,20 +21,14 @@ pub fn tell_number(rt: &impl Eprint, n: u64) {
     let _ = rt.eprint(n);
 }
 
-// Writes at most 1,024 bytes to standard error as people can read them: each takes at most four.
-fn tell_part_shown(rt: &impl Eprint, part: &[u8]) {
-    let mut line = [0u8; 4096];
-    let n = legible::show(part, &mut line);
-    if let Ok(text) = std::str::from_utf8(&line[..n]) {
-        let _ = rt.eprint(text);
-    }
-}
-
-// Writes bytes to standard error as people can read them.
+// Writes bytes to standard error as people can read them. A part that can't be written is no reason to leave out those behind it.
 pub fn tell_shown(rt: &impl Eprint, bytes: &[u8]) {
-    for part in bytes.chunks(1024) {
-        tell_part_shown(rt, part);
-    }
+    let _ = show_whole(bytes, |part| {
+        if let Ok(text) = std::str::from_utf8(part) {
+            let _ = rt.eprint(text);
+        }
+        Ok(())
+    });
 }
 
 // Says what hinders a program.
@@ -63,20 +58,20 @@ pub fn fail(rt: &impl Eprint, what: &[u8], e: Error) {
 pub fn complain_of(rt: &impl Eprint, program: &[u8], what: &[u8], path: &[u8], e: Error) {
     let mut name = [0u8; 16384];
     let n = legible::show(path, &mut name);
-    let mut line = [0u8; 16640];
-    let at = put(&mut line, 0, program);
-    let at = put(&mut line, at, b": can't ");
-    let at = put(&mut line, at, what);
-    let at = put(&mut line, at, b" '");
-    let at = put(&mut line, at, &name[..n]);
-    let at = put(&mut line, at, b"'");
-    fail(rt, &line[..at], e);
+    let mut line = Line::<16640>::new();
+    line.put(program);
+    line.put(b": can't ");
+    line.put(what);
+    line.put(b" '");
+    line.put(&name[..n]);
+    line.put(b"'");
+    fail(rt, line.as_bytes(), e);
 }
 
 // Says that a program can't read standard input, and the system's word on it.
 pub fn complain_of_input(rt: &impl Eprint, program: &[u8], e: Error) {
-    let mut line = [0u8; 128];
-    let at = put(&mut line, 0, program);
-    let at = put(&mut line, at, b": can't read standard input");
-    fail(rt, &line[..at], e);
+    let mut line = Line::<128>::new();
+    line.put(program);
+    line.put(b": can't read standard input");
+    fail(rt, line.as_bytes(), e);
 }

@@ -10,6 +10,7 @@ mod input;
 mod line;
 mod output;
 mod path;
+mod shown;
 mod words;
 
 pub use calls::write_whole;
@@ -17,7 +18,7 @@ pub use complaint::{complain, complain_of, tell, tell_number, tell_shown};
 pub use ending::{Ending, end};
 pub use file::{load, load_input};
 pub use input::{Reading, Unread, more};
-pub use line::{put, put_number};
+pub use line::Line;
 pub use output::{Unwritten, print, print_number, print_shown};
 pub use path::{create, remove};
 pub use words::{arg, arg_count};

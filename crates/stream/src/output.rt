@@ -1,7 +1,8 @@
 // Bytes and numbers on standard output, and bytes as people can read them.
 use crate::calls::write_whole;
 use crate::complaint::fail;
-use std::io::{Write, writer};
+use crate::shown::show_whole;
+use std::io::writer;
 
 // Standard output did not take all, and that has been said on standard error.
 #[derive(Clone, Copy, PartialEq, Eq, Debug)]
@@ -27,22 +28,8 @@ pub fn print_number(rt: &(impl Print + Eprint), n: u64) -> Result<(), Unwritten>
     print(rt, &digits[..k])
 }
 
-// Writes at most 1,024 bytes as people can read them: each takes at most four.
-fn write_part_shown<W: Write>(to: &mut W, part: &[u8]) -> std::io::Result<()> {
-    let mut line = [0u8; 4096];
-    let n = legible::show(part, &mut line);
-    write_whole(to, &line[..n])
-}
-
-// Writes bytes as people can read them.
-fn write_shown<W: Write>(to: &mut W, bytes: &[u8]) -> std::io::Result<()> {
-    for part in bytes.chunks(1024) {
-        write_part_shown(to, part)?;
-    }
-    Ok(())
-}
-
 // Writes bytes to standard output as people can read them.
 pub fn print_shown(rt: &(impl Print + Eprint), bytes: &[u8]) -> Result<(), Unwritten> {
-    said(rt, write_shown(&mut writer(rt), bytes))
+    let mut out = writer(rt);
+    said(rt, show_whole(bytes, |part| write_whole(&mut out, part)))
 }

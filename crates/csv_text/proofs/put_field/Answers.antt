@@ -1,54 +1,46 @@
 -- Why put_field is right: the bytes, or between two quotation marks the bytes with theirs doubled.
-use mathlib.Core.List.{[], ◌∷◌, ◌++◌}
-use mathlib.Core.Path.{sym, ap, ◌∙◌}
-use native.Mathlib.Omega.{arith}
-use lib.ListN.{length, length-set}
+use mathlib.Core.List.{[], ◌∷◌}
+use mathlib.Core.Path.{sym, ◌∙◌}
 use Rattle.record.proofs.Turned.{turned_same}
-use Rattle.sheet.specs.Code.{put}
 use Rattle.rfc4180.specs.Rfc.{quote}
-use Rattle.csv_text.specs.Export.{doubled, field_of}
-use Rattle.csv_text.proofs.Doubling.{field_plain, field_quoted, size_quoted}
-use Rattle.sheet.proofs.Puts.{Goes, goes_start, goes_as, goes_part, goes_below, goes_byte, goes_done}
+use Rattle.csv_text.specs.Export.{doubled}
+use Rattle.csv_text.proofs.Doubling.{field_plain, field_quoted}
+use Rattle.csv_text.proofs.Taken.{left_all, left_as, left_part, left_room, left_byte, left_next, left_none}
 use Rattle.csv_text.proofs.put_field.Goals as goal
 
 pub put_turned-requires : goal.put_turned-requires
-put_turned-requires c =
-    let a = c.args in
-    omega (arith, ap length (field_plain a.x.now (sym c.quoted.ensures ∙ c.if-not-quoted.true)))
+put_turned-requires g c =
+    let plain = field_plain c.args.x.now (sym c.quoted.ensures ∙ c.if-not-quoted.true) in
+    rw plain at c.requires
 
 pub returns-then-not-quoted : goal.returns-then-not-quoted
-returns-then-not-quoted c =
-    let a = c.args in
-    let x = a.x.now in
+returns-then-not-quoted g c =
+    let x = c.args.x.now in
     let plain = field_plain x (sym c.quoted.ensures ∙ c.if-not-quoted.true) in
-    (c.put_turned.ensures ∙ ap (put a.out.now a.at) (turned_same quote x ∙ sym plain), omega (arith, ap length plain))
+    rw (turned_same quote x ∙ sym plain) at c.put_turned.ensures
 
-pub bounds-out-at : goal.bounds-out-at
-bounds-out-at c =
-    let a = c.args in
-    omega (arith, size_quoted a.x.now (sym c.quoted.ensures ∙ c.if-not-quoted.false))
+pub put-requires : goal.put-requires
+put-requires g c =
+    let is = field_quoted c.args.x.now (sym c.quoted.ensures ∙ c.if-not-quoted.false) in
+    left_byte g.met.S.Sink.laws (left_as (left_all c.args.sink.now _ c.requires) is)
 
-pub put_doubled-e-requires : goal.put_doubled-e-requires
-put_doubled-e-requires c =
-    let a = c.args in
-    omega (arith, size_quoted a.x.now (sym c.quoted.ensures ∙ c.if-not-quoted.false), length-set a.out.now a.at 34)
-
-pub bounds-out-e : goal.bounds-out-e
-bounds-out-e c =
-    let closing : let a = c.args in Goes a.out.now a.at (field_of a.x.now) c.put_doubled-e.new.out c.put_doubled-e.result (quote ∷ []) = let a = c.args in
-    let p = c.put_doubled-e in
-    let x = a.x.now in
+pub put_doubled-requires : goal.put_doubled-requires
+put_doubled-requires g c =
+    let laws = g.met.S.Sink.laws in
+    let x = c.args.x.now in
     let is = field_quoted x (sym c.quoted.ensures ∙ c.if-not-quoted.false) in
-    let g = goes_byte quote (doubled x ++ quote ∷ []) (goes_as (goes_start a.out.now a.at _ c.requires) is) in
-    goes_part (doubled x) (quote ∷ []) p.new.out p.result g p.ensures.0 p.ensures.1 in
-    goes_below quote [] closing
+    left_room laws (doubled x) (quote ∷ []) (left_next laws (left_as (left_all c.args.sink.now _ c.requires) is) c.put.ensures)
+
+pub put-requires-2 : goal.put-requires-2
+put-requires-2 g c =
+    let laws = g.met.S.Sink.laws in
+    let x = c.args.x.now in
+    let is = field_quoted x (sym c.quoted.ensures ∙ c.if-not-quoted.false) in
+    left_byte laws (left_part laws (doubled x) (quote ∷ []) (left_next laws (left_as (left_all c.args.sink.now _ c.requires) is) c.put.ensures) c.put_doubled.ensures)
 
 pub returns : goal.returns
-returns c =
-    let closing : let a = c.args in Goes a.out.now a.at (field_of a.x.now) c.put_doubled-e.new.out c.put_doubled-e.result (quote ∷ []) = let a = c.args in
-    let p = c.put_doubled-e in
-    let x = a.x.now in
+returns g c =
+    let laws = g.met.S.Sink.laws in
+    let x = c.args.x.now in
     let is = field_quoted x (sym c.quoted.ensures ∙ c.if-not-quoted.false) in
-    let g = goes_byte quote (doubled x ++ quote ∷ []) (goes_as (goes_start a.out.now a.at _ c.requires) is) in
-    goes_part (doubled x) (quote ∷ []) p.new.out p.result g p.ensures.0 p.ensures.1 in
-    goes_done (goes_byte quote [] closing)
+    left_none laws (left_next laws (left_part laws (doubled x) (quote ∷ []) (left_next laws (left_as (left_all c.args.sink.now _ c.requires) is) c.put.ensures) c.put_doubled.ensures) c.put-2.ensures)
