@@ -53,7 +53,8 @@ pub fn add_record(sum: u32, part: &[u8]) -> u32
     let mut t = sum;
     let mut rest = part;
     while let Some((piece, left)) = rest.split_first_chunk::<4>() {
-        t ^= u32::from_be_bytes(*piece);
+        let [a, b, c, d] = *piece;
+        t ^= join(a, b, c, d);
         rest = left;
     }
     add_tail(t, BAR, rest)

@@ -72,7 +72,7 @@ pub fn signed(below: bool, v: u64) -> i64
     ensures { result ≡ signed_of below v }
 {
     let x = v as i64;
-    if below { -x } else { x }
+    if below { 0 - x } else { x }
 }
 
 // Each byte is the digit 0.

@@ -1,12 +1,14 @@
 -- Eight bytes in one number: the place of the first that is a given byte, by exclusive or, masks and the zeros at the low end.
-use Prim.Native.Nat.{ℕ, zero, suc, ◌+◌, ◌*◌, ◌/◌, ◌%◌, ◌<◌, ◌^◌}
+use Prim.Native.Nat.{ℕ, zero, suc, ◌+◌, ◌*◌, ◌/◌, ◌%◌, ◌<◌, ◌≤◌, ◌^◌}
 use mathlib.Core.Path.{◌≡◌, refl, sym, ap, ◌∙◌}
 use mathlib.Core.List.{List, [], ◌∷◌}
 use mathlib.Core.Bool.{Bool, true, false, cond, ◌&&◌, ◌||◌, false≢true}
-use native.Mathlib.Decide.{ℕ_discrete}
+use native.Mathlib.Decide.{ℕ_discrete, dec_lt}
+use native.Mathlib.Nat.{add-zero}
 use native.Mathlib.Omega.{arith}
 use lib.Dec.{eqb}
-use lib.ListN.{length}
+use lib.ListN.{length, take, drop, get_or, length-take, length-drop, get_or-eq_default}
+use lib.Seq.{drop-drop, get_or-take, get_or-drop}
 use lib.Bits.{bit_and, bit_or, bit_xor, and_block, or_block, xor_block, and_le_r, xor_self, xor_lt, and_lt, or_lt}
 use lib.Count.{count_trailing_zeros}
 use borrow.Author.Tests.{eqb-true, eq-eqb, ne_eqb}
@@ -170,14 +172,47 @@ eight_run c l n hc h =
     ap (λ (a : ℕ). count_trailing_zeros 64 (hits 8 (low l) a) / 8) e ∙ r
 
 -- eight bytes read as one number, first byte lowest
-pub low_eight : (l : List ℕ) → length l ≡ 8 → from_le_bytes w64 l ≡ low l
-low_eight [] h = absurd (omega arith)
-low_eight (a ∷ []) h = absurd (omega arith)
-low_eight (a ∷ b ∷ []) h = absurd (omega arith)
-low_eight (a ∷ b ∷ c ∷ []) h = absurd (omega arith)
-low_eight (a ∷ b ∷ c ∷ d ∷ []) h = absurd (omega arith)
-low_eight (a ∷ b ∷ c ∷ d ∷ e ∷ []) h = absurd (omega arith)
-low_eight (a ∷ b ∷ c ∷ d ∷ e ∷ f ∷ []) h = absurd (omega arith)
-low_eight (a ∷ b ∷ c ∷ d ∷ e ∷ f ∷ g ∷ []) h = absurd (omega arith)
-low_eight (a ∷ b ∷ c ∷ d ∷ e ∷ f ∷ g ∷ i ∷ []) h = omega arith
-low_eight (a ∷ b ∷ c ∷ d ∷ e ∷ f ∷ g ∷ i ∷ j ∷ l) h = absurd (omega arith)
+pub low_from_le : (l : List ℕ) → length l ≡ 8 → from_le_bytes w64 l ≡ low l
+low_from_le [] h = absurd (omega arith)
+low_from_le (a ∷ []) h = absurd (omega arith)
+low_from_le (a ∷ b ∷ []) h = absurd (omega arith)
+low_from_le (a ∷ b ∷ c ∷ []) h = absurd (omega arith)
+low_from_le (a ∷ b ∷ c ∷ d ∷ []) h = absurd (omega arith)
+low_from_le (a ∷ b ∷ c ∷ d ∷ e ∷ []) h = absurd (omega arith)
+low_from_le (a ∷ b ∷ c ∷ d ∷ e ∷ f ∷ []) h = absurd (omega arith)
+low_from_le (a ∷ b ∷ c ∷ d ∷ e ∷ f ∷ g ∷ []) h = absurd (omega arith)
+low_from_le (a ∷ b ∷ c ∷ d ∷ e ∷ f ∷ g ∷ i ∷ []) h = omega arith
+low_from_le (a ∷ b ∷ c ∷ d ∷ e ∷ f ∷ g ∷ i ∷ j ∷ l) h = absurd (omega arith)
+
+-- the four bytes at a place
+take_four : (l : List ℕ) → 4 ≤ length l → take 4 l ≡ get_or l 0 0 ∷ get_or l 1 0 ∷ get_or l 2 0 ∷ get_or l 3 0 ∷ []
+take_four [] h = absurd (omega arith)
+take_four (a ∷ []) h = absurd (omega arith)
+take_four (a ∷ b ∷ []) h = absurd (omega arith)
+take_four (a ∷ b ∷ c ∷ []) h = absurd (omega arith)
+take_four (a ∷ b ∷ c ∷ d ∷ l) h = refl
+
+pub four_at : (s : List ℕ) (i : ℕ) → i + 4 ≤ length s → get_or s i 0 + get_or s (i + 1) 0 * 0x100 + get_or s (i + 2) 0 * 0x10000 + get_or s (i + 3) 0 * 0x1000000 ≡ low (take 4 (drop i s))
+four_at s i h =
+    let e : take 4 (drop i s) ≡ get_or s i 0 ∷ get_or s (i + 1) 0 ∷ get_or s (i + 2) 0 ∷ get_or s (i + 3) 0 ∷ [] =
+    take_four (drop i s) (omega (arith, length-drop i s)) ∙ simp (get_or-drop, add-zero) in
+    rw e (omega arith)
+
+-- eight bytes are four and four
+low_go : (l : List ℕ) → 4 ≤ length l → low (take 8 l) ≡ low (take 4 l) + low (take 4 (drop 4 l)) * 0x100000000
+low_go [] h = absurd (omega arith)
+low_go (a ∷ []) h = absurd (omega arith)
+low_go (a ∷ b ∷ []) h = absurd (omega arith)
+low_go (a ∷ b ∷ c ∷ []) h = absurd (omega arith)
+low_go (a ∷ b ∷ c ∷ d ∷ l) h = omega arith
+
+pub low_eight : (s : List ℕ) (i : ℕ) → i + 8 ≤ length s → low (take 8 (drop i s)) ≡ low (take 4 (drop i s)) + low (take 4 (drop (i + 4) s)) * 0x100000000
+low_eight s i h = low_go (drop i s) (omega (arith, length-drop i s)) ∙ rw (drop-drop 4 i s)
+
+-- a part of bytes is bytes
+bytes_go : (s : List ℕ) (a n i : ℕ) → Bytes s → Dec (i < n) → get_or (take n (drop a s)) i 0 < 256
+bytes_go s a n i h (yes l) = rw (get_or-take n (drop a s) i 0 l, get_or-drop a s i 0) (h (a + i))
+bytes_go s a n i h (no l) = rw (get_or-eq_default (take n (drop a s)) 0 {n = i} (omega (arith, length-take n (drop a s)))) (omega arith)
+
+pub part_bytes : (s : List ℕ) (a n : ℕ) → Bytes s → Bytes (take n (drop a s))
+part_bytes s a n h i = bytes_go s a n i h (dec_lt i n)

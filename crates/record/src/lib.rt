@@ -203,5 +203,9 @@ pub fn field_at(sep: u8, r: &[u8], k: usize) -> Option<Span>
 pub fn count_fields(sep: u8, r: &[u8]) -> usize
     ensures { result ≡ length (fields sep r.now) }
 {
-    r.iter().filter(|b| **b == sep).count() + 1
+    let mut n = 1;
+    for b in r {
+        n += usize::from(*b == sep);
+    }
+    n
 }

@@ -24,8 +24,8 @@ pub number_equal : (x y : ℕ) → y ≤ x → x ≤ y → number_order x y ≡ 
 unfolding number_order
 number_equal x y h k = rw (le-ltb x y h, le-ltb y x k)
 
--- the library's comparison of two slices of bytes is this order
-nat_cmp_is : (x y : ℕ) → nat_cmp x y ≡ number_order x y
+-- the library's comparison of two numbers is this order
+pub nat_cmp_is : (x y : ℕ) → nat_cmp x y ≡ number_order x y
 unfolding number_order
 nat_cmp_is x y = go (ltb x y) (ltb y x) refl refl
   where
@@ -39,6 +39,7 @@ then_is Less later = refl
 then_is Equal later = refl
 then_is Greater later = refl
 
+-- and its comparison of two slices of bytes is the order of texts
 pub slice_cmp_is : (a b : List ℕ) → slice_cmp nat_cmp a b ≡ text_order a b
 unfolding text_order
 slice_cmp_is [] [] = refl

@@ -294,6 +294,7 @@ pub fn same_bytes(a: &[u8], b: &[u8]) -> bool
 }
 
 // How the text a stands to the text b: by byte, a shorter text before one that continues it.
+#[tactic(auto, using(crate::proofs::Orders::slice_cmp_is))]
 pub fn text_order(a: &[u8], b: &[u8]) -> Ordering
     ensures { result ≡ text_order a.now b.now }
 {

@@ -14,7 +14,7 @@ pub loop-piece-preserved : goal.loop-piece-preserved
 loop-piece-preserved c =
     let l = c.loop-piece in
     let e = c.in-Some.ensures.cases in
-    ap (λ (w : ℕ). add_record (bit_xor l.t w) c.in-Some.left.now) c.from_be_bytes-t.ensures
+    ap (λ (w : ℕ). add_record (bit_xor l.t w) c.in-Some.left.now) c.join-t.ensures
     ∙ add_piece l.t l.rest.now c.in-Some.piece.now c.in-Some.left.now (omega arith) e.0 e.1 ∙ l.invariant
 
 pub returns : goal.returns
