@@ -15,6 +15,10 @@ use Rattle.fault.specs.declared.Fault.{Fault}
 use Rattle.fault.specs.declared.State.{State}
 use Rattle.fault.specs.declared.Passed.{Passed as Next}
 
+-- a fault is not nothing
+pub no_fault : {n f : ℕ} → fault n f ≡ fine → ⊥
+no_fault e = cc
+
 -- two tests that find nothing
 pub also_fine : {a b : Check} → a ≡ fine → b ≡ fine → also a b ≡ fine
 also_fine p q = rw (p, q)
@@ -22,7 +26,7 @@ also_fine p q = rw (p, q)
 -- a kind in its place is a kind
 pub placed_known : (l : Layout) (last k : ℕ) → place_fault l last k ≡ fine → k ≡ 0 → ⊥
 unfolding place_fault
-placed_known l last k e h = let z : fault 4 1 ≡ fine = rw (eq-eqb k 0 h) at e in cc
+placed_known l last k e h = no_fault (rw (eq-eqb k 0 h) at e)
 
 -- 3, 4 and 5, 6 to 10, and the rest
 module _ (sep : ℕ) (l : Layout) (st : State) (old : ℕ → List ℕ) (r : List ℕ) (short : length r ≤ 512) {k : ℕ} (kind : k ≡ kind_of sep l r) where

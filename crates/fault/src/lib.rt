@@ -88,6 +88,7 @@ fn field_wrong(sep: u8, n: usize, wrong: Wrong, field: usize, r: &[u8]) -> Fault
 }
 
 // The fields from 2 on by some rules, read as they come, after a kind of three bytes; where all is right, the place of field key.
+#[tactic(auto, using(crate::proofs::Fields::reading_over))]
 fn judge_fields(
     t: &[u32],
     fixed: &[u8],

@@ -1,7 +1,7 @@
 -- The rules of a filled field, one case at a time. Assumes nothing.
 use mathlib.Core.Path.{◌≡◌, refl, sym, ◌∙◌, ap}
-use mathlib.Core.Bool.{Bool, true, false, not, ◌&&◌, and-true, and-false}
-use mathlib.Core.List.{List, [], ◌++◌}
+use mathlib.Core.Bool.{Bool, true, false, not, ◌&&◌, and-true, and-false, false≢true}
+use mathlib.Core.List.{List, [], ◌∷◌, ◌++◌}
 use Prim.Native.Nat.{ℕ, ◌+◌, ◌-◌, ◌≤◌, ◌<◌}
 use native.Mathlib.Omega.{arith}
 use lib.Dec.{eqb, leb, ltb}
@@ -26,6 +26,11 @@ use Rattle.field.specs.declared.Content.TheVariants.{Number}
 use Rattle.field.specs.declared.Wrong.{Wrong}
 use Rattle.field.specs.declared.Wrong.TheVariants.{Form, Range, Fixed}
 use Rattle.number.proofs.Digits.{and_left, and_right, plain_some, number_append, form_above}
+
+-- bytes that lead right are one or more
+pub leads_some : (d : List ℕ) → leads d ≡ true → 0 < length d
+leads_some [] e = absurd (false≢true e)
+leads_some (x ∷ d) e = omega arith
 
 -- of two refusals a test gives one
 err_must : (b : Bool) (v w : Wrong) → must {A = Result Content Wrong} b (Err v) (Err w) ≡ Err (must b v w)
@@ -155,6 +160,11 @@ pub moment_is : (timed : Bool) (s : List ℕ)
 unfolding filled form range value_of
 moment_is false s = refl
 moment_is true s = refl
+
+-- a moment's digits are few enough for 64 bits
+pub moment_short : (timed : Bool) → moment_digits timed ≤ 18
+moment_short false = omega arith
+moment_short true = omega arith
 
 -- what a mark makes of what is said of a field by its type alone: only one that passes is held to it
 abbrev pub then_mark : Bool → Result Content Wrong → Result Content Wrong

@@ -7,7 +7,7 @@ use Rattle.record.specs.Records.{fields}
 use Rattle.layout.specs.Numbers.{rule_of}
 use Rattle.field.specs.Judge.{refusal_of}
 use Rattle.fault.specs.Fields.{field_fault}
-use Rattle.fault.proofs.Fields.{reading_kind, reading_next, reading_wrong, reading_short, reading_over, reading_done, shape_wrong, number_some}
+use Rattle.fault.proofs.Fields.{reading_kind, reading_next, reading_wrong, reading_short, reading_done, shape_wrong, number_some}
 use Rattle.fault.proofs.judge_fields.Goals as goal
 
 pub loop-f-init : goal.loop-f-init
@@ -38,12 +38,6 @@ loop-f-preserved c =
     let here = rw (i.0, i.1) at step.2 in
     let is = sym (ap refusal_of c.in_default-judge_field.is) ∙ c.judge_field.ensures ∙ ap (field_fault (rule_of a.t.now a.fixed.now (a.rules.place + 3 * c.loop-f.f))) c.of.ensures in
     (step.0 ∙ i.0, step.1 ∙ i.1, reading_next a.t.now a.fixed.now a.rules.place a.rules.count a.sep a.key a.r.now i.2 here c.loop-f-test.true is refl c.keep-found-in-loop-f.ensures)
-
-pub returns-in-Some-next : goal.returns-in-Some-next
-returns-in-Some-next c =
-    let a = c.args in
-    let i = c.loop-f.invariant in
-    reading_over a.t.now a.fixed.now a.rules.place a.rules.count a.sep a.key a.r.now i.2 c.loop-f-test.false (rw (i.0, i.1) at c.in-Some-next.ensures.steps.2)
 
 pub returns-in-None : goal.returns-in-None
 returns-in-None c =
