@@ -24,11 +24,10 @@ use Rattle.flow.specs.declared.NoStep.TheVariants.{Refused}
 use Rattle.flow.proofs.Asking.{asked_whole}
 use Rattle.field.specs.declared.Content.{Content}
 use Rattle.field.specs.declared.Content.TheVariants as contents
-use Rattle.field.specs.declared.Wrong.{Wrong}
 use Rattle.judge.specs.File.{judged_by, with_place, judged_for, judged}
 use Rattle.judge.specs.File.{paper as judged_paper}
 use Rattle.judge.specs.declared.Unplaced.{Unplaced}
-use Rattle.value.specs.Value.{is_there, text_at, end_of, as_value, answer_in, field_value, of_accepted, value_at, value_by, value_in, valued}
+use Rattle.value.specs.Value.{is_there, text_at, end_of, numbered, as_value, answer_in, field_value, of_accepted, value_at, value_by, value_in, valued}
 use Rattle.value.specs.Value.{paper as value_paper}
 use Rattle.value.specs.declared.Value.{Value}
 use Rattle.value.specs.declared.Value.TheVariants as values
@@ -105,14 +104,14 @@ stepped_placed sep s words kinds r old new x is w =
 
 -- of a value that is asked
 module _ (f : List ℕ) (n k : ℕ) where
-  answer_placed : (to : ℕ) (a : Result Content Wrong) → PlacedIn bar f (as_value n k (place_at bar f n k) to a)
-  answer_placed to (Err wrong) = refl
+  answer_placed : (to : ℕ) (a : Result Content ℕ) → PlacedIn bar f (as_value n k (place_at bar f n k) to a)
+  answer_placed to (Err number) = refl
   answer_placed to (Ok contents.Empty) = tt
   answer_placed to (Ok (contents.Number z)) = tt
   answer_placed to (Ok (contents.Truth b)) = tt
   answer_placed to (Ok contents.Text) = tt
 
-  kind_or_answer : (b : Bool) (a : Result Content Wrong) → PlacedIn bar f (cond b (text_at f n k) (as_value n k (place_at bar f n k) (end_of f n k) a))
+  kind_or_answer : (b : Bool) (a : Result Content ℕ) → PlacedIn bar f (cond b (text_at f n k) (as_value n k (place_at bar f n k) (end_of f n k) a))
   kind_or_answer true a = tt
   kind_or_answer false a = answer_placed (end_of f n k) a
 
@@ -120,7 +119,7 @@ module _ (f : List ℕ) (n k : ℕ) where
   unfolding value_at field_value
   at_placed fl =
       first_failing bar f (is_there f n k) (refusal_at bar f 18 n k) _ refl
-      (kind_or_answer (eqb k 1) (answer_in (layout_for fl) (record_at f n) k))
+      (kind_or_answer (eqb k 1) (numbered (answer_in (layout_for fl) (record_at f n) k)))
 
   accepted_or_not : (j : Result ℕ Refusal) (v : Result Value Refusal) → PlacedIn bar f j → PlacedIn bar f v → PlacedIn bar f (of_accepted j v)
   accepted_or_not (Ok m) v g h = h

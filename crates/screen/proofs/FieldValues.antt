@@ -11,7 +11,7 @@ use Rattle.field.specs.declared.Wrong.{Wrong}
 use Rattle.value.specs.Value as values
 use Rattle.screen.specs.Numbers.{value_cells, field_cells}
 
-pub field_value_lem : (s f : List ℕ) (a : Result Content Wrong) → value_cells (values.paper f (values.as_value 0 0 0 (length s) a)) ≡ field_cells (fields.paper s a)
+pub field_value_lem : (s f : List ℕ) (a : Result Content Wrong) → value_cells (values.paper f (values.as_value 0 0 0 (length s) (values.numbered a))) ≡ field_cells (fields.paper s a)
 field_value_lem s f (Err wrong) = refl
 field_value_lem s f (Ok Empty) = refl
 field_value_lem s f (Ok (Number z)) = refl

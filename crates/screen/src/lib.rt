@@ -192,7 +192,8 @@ pub extern "C" fn screen_field(
         return;
     }
     let a = field::judge(type_coded(kind, p, q), mark_coded(mark), fixed, bytes);
-    *answer = value_cells(value::as_value(a, 0, 0, 0, bytes.len()));
+    let numbered = a.map_err(|wrong| wrong.number());
+    *answer = value_cells(value::as_value(numbered, 0, 0, 0, bytes.len()));
 }
 
 // Takes the checksum of bytes.

@@ -14,12 +14,11 @@ use Rattle.place.specs.Places.{record_at, place_at, refusal_at}
 use Rattle.place.proofs.Points.{field_at_place}
 use Rattle.field.specs.declared.Content.{Content}
 use Rattle.field.specs.declared.Content.TheVariants as contents
-use Rattle.field.specs.declared.Wrong.{Wrong}
 use Rattle.layout.specs.Layout.{Layout}
 use Rattle.flow.specs.Publication.{layout_for}
 use Rattle.flow.specs.Editions.{Asked, a_flow, no_flow}
 use Rattle.judge.specs.File.{placed_by}
-use Rattle.value.specs.Value.{is_there, end_of, text_at, as_value, answer_in, field_value, of_accepted, value_at, value_by, value_in, paper, text, TextWithin}
+use Rattle.value.specs.Value.{is_there, end_of, text_at, numbered, as_value, answer_in, field_value, of_accepted, value_at, value_by, value_in, paper, text, TextWithin}
 use Rattle.value.specs.declared.Value.{Value}
 use Rattle.std.specs.Prelude.{Result, Ok, Err}
 use Rattle.place.specs.declared.Refusal.{Refusal}
@@ -44,8 +43,8 @@ pub text_bytes : (f : List ℕ) (n k : ℕ) → is_there f n k ≡ true
 text_bytes f n k e = ap (text (place_at bar f n k) (place_at bar f n k + length (field bar k (record_at f n)))) (text_lies f n k e).is
 
 -- and every text that is answered lies within the file
-within_answer : (f : List ℕ) (n k : ℕ) → TextWithin f (text_at f n k) → (a : Result Content Wrong) → TextWithin f (as_value n k (place_at bar f n k) (end_of f n k) a)
-within_answer f n k h (Err wrong) = tt
+within_answer : (f : List ℕ) (n k : ℕ) → TextWithin f (text_at f n k) → (a : Result Content ℕ) → TextWithin f (as_value n k (place_at bar f n k) (end_of f n k) a)
+within_answer f n k h (Err number) = tt
 within_answer f n k h (Ok contents.Empty) = tt
 within_answer f n k h (Ok (contents.Number z)) = tt
 within_answer f n k h (Ok (contents.Truth b)) = tt
@@ -66,7 +65,7 @@ within_at l f n k =
     (λ e.
     let p = text_lies f n k e in
     let h : TextWithin f (text_at f n k) = (p.ordered, p.within) in
-    within_either f (eqb k 1) (text_at f n k) _ h (within_answer f n k h (answer_in l (record_at f n) k)))
+    within_either f (eqb k 1) (text_at f n k) _ h (within_answer f n k h (numbered (answer_in l (record_at f n) k))))
 
 within_accepted : (f : List ℕ) (w : Result ℕ Refusal) (v : Result Value Refusal) → TextWithin f v → TextWithin f (of_accepted w v)
 within_accepted f (Ok n) v h = h

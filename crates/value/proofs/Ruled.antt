@@ -25,7 +25,7 @@ use Rattle.layout.specs.Layout.{Rule, no_rule, Layout}
 use Rattle.layout.specs.Numbers.{word, type_of, fixed_of, rule_of, layout_of, RulesOf}
 use Rattle.layout.proofs.FieldRules.{rule_at, rule_past, type_is}
 use Rattle.fault.specs.Record.{kind_of}
-use Rattle.value.specs.Value.{is_there, end_of, rule_for, by_rule, as_value, field_value, value_at}
+use Rattle.value.specs.Value.{is_there, end_of, rule_for, by_rule, numbered, as_value, field_value, value_at}
 use Rattle.value.specs.declared.Value.{Value}
 use Rattle.value.specs.declared.Value.TheVariants.{Text}
 use Rattle.std.specs.Prelude.{Result, Ok, Err}
@@ -101,8 +101,8 @@ module _ (l : Layout) (f : List ℕ) (n k : ℕ) where
 
       -- any other field
       pub ruled_value : (k ≡ 1 → ⊥) → {j : ℕ} {answer : Result Content Wrong} {v : Result Value Refusal} → j ≡ kind_of bar l r → answer ≡ by_rule (rule_for l j k) s
-          → v ≡ as_value n k (start + a) (start + e) answer → v ≡ value_at l f n k
+          → v ≡ as_value n k (start + a) (start + e) (numbered answer) → v ≡ value_at l f n k
       unfolding field_value
       ruled_value z kind is v =
           let j = kind ∙ ap (kind_of bar l) x.is.is in
-          v ∙ (λ i. as_value n k (placed.0 i) (placed.1 i) ((is ∙ (λ i. by_rule (rule_for l (j i) k) (bytes_are i))) i)) ∙ sym (found ∙ rw (ne_eqb k 1 z))
+          v ∙ (λ i. as_value n k (placed.0 i) (placed.1 i) (numbered ((is ∙ (λ i. by_rule (rule_for l (j i) k) (bytes_are i))) i))) ∙ sym (found ∙ rw (ne_eqb k 1 z))

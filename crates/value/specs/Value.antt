@@ -37,9 +37,14 @@ rule_for l j k = get_or (row l j).rules (k - 2) no_rule
 abbrev pub by_rule : Rule → List ℕ → Result Content Wrong
 by_rule rule s = field_answer rule.type rule.mark s
 
+-- an answer with its refusal as its number
+abbrev pub numbered : Result Content Wrong → Result Content ℕ
+numbered (Err wrong) = Err (number_of wrong)
+numbered (Ok content) = Ok content
+
 -- the answer of field k of record n, which stands from a place up to another, as a value
-abbrev pub as_value : ℕ → ℕ → ℕ → ℕ → Result Content Wrong → Result Value Refusal
-as_value n k from to (Err wrong) = Err (refusal (number_of wrong) n k from)
+abbrev pub as_value : ℕ → ℕ → ℕ → ℕ → Result Content ℕ → Result Value Refusal
+as_value n k from to (Err number) = Err (refusal number n k from)
 as_value n k from to (Ok contents.Empty) = Ok Empty
 as_value n k from to (Ok (contents.Number z)) = Ok (Number z)
 as_value n k from to (Ok (contents.Truth b)) = Ok (Truth b)
@@ -51,7 +56,7 @@ answer_in l r k = by_rule (rule_for l (kind_of bar l r) k) (field bar k r)
 
 -- the value of a field that is there: a kind's is its bytes, any other's goes by its rule
 unfoldable pub field_value : Layout → List ℕ → ℕ → ℕ → Result Value Refusal
-field_value l f n k = cond (eqb k 1) (text_at f n k) (as_value n k (place_at bar f n k) (end_of f n k) (answer_in l (record_at f n) k))
+field_value l f n k = cond (eqb k 1) (text_at f n k) (as_value n k (place_at bar f n k) (end_of f n k) (numbered (answer_in l (record_at f n) k)))
 
 -- the reader's refusal; of an accepted file what comes after
 abbrev pub of_accepted : Result ℕ Refusal → Result Value Refusal → Result Value Refusal

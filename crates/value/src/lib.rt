@@ -36,9 +36,9 @@ fn answer_by(t: &[u32], fixed: &[u8], j: usize, k: usize, s: &[u8]) -> Result<Co
     field::judge_marked(kind, mark, value, &class, s)
 }
 
-// The answer of field k of record n, which stands from `from` up to `to`, as a value.
+// The answer of field k of record n, which stands from `from` up to `to`, as a value. A refusal comes as its number, any number.
 pub fn as_value(
-    a: Result<Content, Wrong>,
+    a: Result<Content, u8>,
     n: usize,
     k: usize,
     from: usize,
@@ -47,8 +47,8 @@ pub fn as_value(
     ensures { result ≡ as_value n k from to a }
 {
     match a {
-        Err(wrong) => Err(Refusal {
-            number: wrong.number() as usize,
+        Err(number) => Err(Refusal {
+            number: number as usize,
             record: n,
             field: k,
             place: from,
@@ -77,7 +77,8 @@ fn value_at(t: &[u32], fixed: &[u8], f: &[u8], n: usize, k: usize) -> Result<Val
         return Ok(Value::Text { from, to });
     }
     let j = fault::kind_of(t, BAR, r);
-    as_value(answer_by(t, fixed, j, k, field.of(r)), n, k, from, to)
+    let answer = answer_by(t, fixed, j, k, field.of(r));
+    as_value(answer.map_err(|wrong| wrong.number()), n, k, from, to)
 }
 
 // Field k of record n of a file by a table: the reader's refusals, then what follows of an accepted file.

@@ -1,8 +1,9 @@
 -- `screen_field` is right: 18 for a code that is none, else the field's answer, turned to numbers.
-use mathlib.Core.Path.{refl, ap, ◌∙◌}
+use mathlib.Core.Path.{◌≡◌, refl, ap, ◌∙◌}
+use borrow.Author.Rules.{rules}
 use borrow.Author.Tests.{lt-leb, le-leb}
 use Rattle.field.specs.Judge.{field_judged}
-use Rattle.value.specs.Value.{paper}
+use Rattle.value.specs.Value.{numbered, paper}
 use Rattle.value.specs.declared.Value.{Value}
 use Rattle.place.specs.declared.Refusal.{Refusal}
 use Rattle.std.specs.Prelude.{Result}
@@ -26,6 +27,7 @@ returns c =
     let type = c.type_coded.ensures in
     let mark = c.mark_coded.ensures a.fixed.now in
     let answer = c.judge-a in
+    let same : c.map_err-numbered.result ≡ numbered answer.result = search rules in
     rw (le-leb _ 7 c.if-kind-gt7.false, le-leb _ 2 c.if-mark-gt2.false)
-    (c.value_cells.ensures s ∙ ap (λ (v : Result Value Refusal). value_cells (paper s v)) c.as_value.ensures
+    (c.value_cells.ensures s ∙ ap (λ (v : Result Value Refusal). value_cells (paper s v)) (rw same at c.as_value.ensures)
     ∙ field_value_lem s s answer.result ∙ ap field_cells (answer.ensures ∙ (λ i. field_judged (type i) (mark i) s)))

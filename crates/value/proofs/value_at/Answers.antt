@@ -1,10 +1,12 @@
 -- `value_at` is right: a record or a field that is not there is 18, a kind is its bytes, and any other field goes by its rule.
-use mathlib.Core.Path.{ap, ◌∙◌}
+use mathlib.Core.Path.{◌≡◌, ap, ◌∙◌}
 use native.Mathlib.Omega.{arith}
+use borrow.Author.Rules.{rules}
 use Rattle.record.specs.Records.{records, fields, bar}
 use Rattle.record.specs.Found.{Stands}
 use Rattle.layout.specs.Numbers.{layout_of}
 use Rattle.std.specs.Prelude.{Err}
+use Rattle.value.specs.Value.{numbered}
 use Rattle.value.proofs.Ruled.{no_record, no_field, kind_value, ruled_value}
 use Rattle.value.proofs.value_at.Goals as goal
 
@@ -44,5 +46,6 @@ returns-then-k-eq1 c =
 pub returns : goal.returns
 returns c =
     let a = c.args in
+    let same : c.map_err.result ≡ numbered c.answer_by-answer.result = search rules in
     ruled_value (layout_of a.t.now a.fixed.now) a.f.now a.n a.k c.in-Some.ensures (rw c.of-r.ensures at c.in-Some-field_at.ensures)
-    c.if-k-eq1.false (rw c.of-r.ensures at c.kind_of-j.ensures.0 a.fixed.now) (rw (c.of.ensures, c.of-r.ensures) at c.answer_by.ensures) c.as_value.ensures
+    c.if-k-eq1.false (rw c.of-r.ensures at c.kind_of-j.ensures.0 a.fixed.now) (rw (c.of.ensures, c.of-r.ensures) at c.answer_by-answer.ensures) (rw same at c.as_value.ensures)
