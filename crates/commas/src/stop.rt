@@ -95,7 +95,7 @@ pub fn find(text: &[u8], from: usize) -> Option<Stop>
     let mut st = State::AtLine;
     let mut mark = from;
     for i in from..text.len() {
-        let next = rfc4180::next(st, text[i]);
+        let next = st.after(text[i]);
         if next == State::Stopped {
             return Some(stop_by(st, text[i], i, mark));
         }

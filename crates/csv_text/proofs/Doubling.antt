@@ -12,13 +12,13 @@ use borrow.Author.Tests.{eq-eqb, ne_eqb}
 use Rattle.rfc4180.specs.Rfc.{quote}
 use Rattle.csv_text.specs.Export.{quoted, doubled, field_of}
 
-cons_go : (b : ℕ) (s : List ℕ) (t : Bool) → cond t (quote ∷ quote ∷ s) (b ∷ s) ≡ cond t (quote ∷ quote ∷ []) (b ∷ []) ++ s
-cons_go b s true = refl
-cons_go b s false = refl
+cons_go : (b : ℕ) (s : List ℕ) (t : Bool) → eqb b quote ≡ t → doubled (b ∷ s) ≡ doubled (b ∷ []) ++ doubled s
+unfolding doubled
+cons_go b s true e = rw e
+cons_go b s false e = rw e
 
 pub doubled_cons : (b : ℕ) (s : List ℕ) → doubled (b ∷ s) ≡ doubled (b ∷ []) ++ doubled s
-unfolding doubled
-doubled_cons b s = cons_go b (doubled s) (eqb b quote)
+doubled_cons b s = cons_go b s (eqb b quote) refl
 
 -- one byte
 pub doubled_quote : (b : ℕ) → b ≡ quote → doubled (b ∷ []) ≡ b ∷ b ∷ []
@@ -55,8 +55,11 @@ module _ (x : List ℕ) where
   unfolding field_of
   field_quoted e = rw e
 
+  pub size_quoted : quoted x ≡ true → length (field_of x) ≡ length (doubled x) + 2
+  size_quoted e = omega (arith, ap length (field_quoted e), length-append (doubled x) (quote ∷ []))
+
   le_go : (t : Bool) → quoted x ≡ t → length (field_of x) ≤ length x + length x + 2
-  le_go true e = omega (arith, ap length (field_quoted e), length-append (doubled x) (quote ∷ []), doubled_le x)
+  le_go true e = omega (arith, size_quoted e, doubled_le x)
   le_go false e = omega (arith, ap length (field_plain e))
 
   pub field_le : length (field_of x) ≤ length x + length x + 2

@@ -131,10 +131,10 @@ text_short s = omega (arith, text_le (records s), records_load s)
 
 -- sizes
 module _ (r : List ℕ) (at : ℕ) {a e n : ℕ} (x : IsField bar r at a e n) where
-  size_last : length r ≤ e → length (line_of (fields_from bar at r)) ≡ length (field_of (take (e - a) (drop a r))) + length (line_of (fields_from bar n r))
+  pub size_last : length r ≤ e → length (line_of (fields_from bar at r)) ≡ length (field_of (take (e - a) (drop a r))) + length (line_of (fields_from bar n r))
   size_last h = ap length (at_last r at x h) ∙ length-append (field_of (take (e - a) (drop a r))) (line_of (fields_from bar n r))
 
-  size_more : e < length r
+  pub size_more : e < length r
       → length (line_of (fields_from bar at r)) ≡ length (field_of (take (e - a) (drop a r))) + 1 + length (line_of (fields_from bar n r))
   size_more h =
       omega (arith, ap length (at_more r at x h), length-append (field_of (take (e - a) (drop a r))) (comma ∷ line_of (fields_from bar n r)))

@@ -1,4 +1,5 @@
 pub mod States
+pub mod Numbers
 pub mod Steps
 pub mod Ways
 pub mod Skimming

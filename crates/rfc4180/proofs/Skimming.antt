@@ -231,6 +231,10 @@ module _ {st : State} {u : List ℕ} (r : Stretch st u) where
 pub given_quoted : (st : State) (u : List ℕ) → in_quotes st ≡ true → stretch_given st u ≡ u
 given_quoted st u e = rw e
 
+pub given_open : (st : State) (u : List ℕ) → (st ≡ InQuotes → ⊥) → stretch_given st u ≡ turned comma tab u
+given_open InQuotes u h = absurd (h refl)
+given_open st u h = refl
+
 given_go : (u : List ℕ) (t : Bool) → length (cond t u (turned comma tab u)) ≡ length u
 given_go u true = refl
 given_go u false = turned_length comma tab u

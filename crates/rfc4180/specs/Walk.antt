@@ -54,6 +54,30 @@ next_of AfterQuote b = behind b
 next_of AfterReturn b = cond (eqb b feed) AtLine Stopped
 next_of Stopped b = Stopped
 
+-- the number of a state
+abbrev pub number_of : State → ℕ
+number_of AtLine = 0
+number_of AtField = 1
+number_of Plain = 2
+number_of InQuotes = 3
+number_of AfterQuote = 4
+number_of AfterReturn = 5
+number_of Stopped = 6
+
+-- the state of a number: one past the last stands at the start of a field, as 1 does
+abbrev pub state_of : ℕ → State
+state_of n =
+    cond (eqb n 0) AtLine
+    (cond (eqb n 2) Plain
+    (cond (eqb n 3) InQuotes
+    (cond (eqb n 4) AfterQuote
+    (cond (eqb n 5) AfterReturn
+    (cond (eqb n 6) Stopped AtField)))))
+
+-- where a byte leads, by the numbers of the states
+abbrev pub next_number : ℕ → ℕ → ℕ
+next_number n b = number_of (next_of (state_of n) b)
+
 -- a byte that stands in the sheet: no CR, and no quotation mark but a doubled one's second
 abbrev pub keeps : State → ℕ → Bool
 keeps st b = cond (eqb b return) false (cond (eqb b quote) (after_quote st) true)

@@ -5,7 +5,7 @@ ghost use Rattle.std.specs.Prelude.{◌≡◌, List, ℕ, ◌+◌, ◌≤◌, le
 ghost use Rattle.sheet.specs.Code.{put};
 ghost use Rattle.rfc4180.specs.Rfc.{textdata as textdata_of};
 ghost use Rattle.rfc4180.specs.declared.State.TheVariants.{AtLine};
-ghost use Rattle.rfc4180.specs.Walk.{parting as parting_of, going as going_of, opening as opening_of, inside as inside_of, behind as behind_of, next_of, keeps as keeps_of, turned_of, given_of, ended_of, may_end, sheet_from, Scanned};
+ghost use Rattle.rfc4180.specs.Walk.{parting as parting_of, going as going_of, opening as opening_of, inside as inside_of, behind as behind_of, next_of, state_of, number_of, next_number, keeps as keeps_of, turned_of, given_of, ended_of, may_end, sheet_from, Scanned};
 ghost use Rattle.rfc4180.specs.Skim.{bare, bare_run, skims, skimmed, led_to, stretch_given, Stretch};
 
 use record::{FEED, TAB};
@@ -31,6 +31,21 @@ pub enum State {
     AfterReturn,
     Stopped,
 }
+
+// The numbers of the states, by which `next` is told where the walk stands.
+pub const AT_LINE: u8 = 0;
+
+const AT_FIELD: u8 = 1;
+
+pub const PLAIN: u8 = 2;
+
+pub const IN_QUOTES: u8 = 3;
+
+const AFTER_QUOTE: u8 = 4;
+
+pub const AFTER_RETURN: u8 = 5;
+
+pub const STOPPED: u8 = 6;
 
 // A text that goes through: the lines and bytes of its sheet.
 #[derive(Clone, Copy, PartialEq, Eq)]
@@ -109,19 +124,58 @@ fn behind(b: u8) -> State
     }
 }
 
-// Where a byte leads.
-#[tactic(auto, unfolding(crate::specs::Walk::next_of))]
-pub fn next(st: State, b: u8) -> State
-    ensures { result ≡ next_of st b }
-{
-    match st {
-        State::AtLine | State::AtField => opening(b),
-        State::Plain => going(b),
-        State::InQuotes => inside(b),
-        State::AfterQuote => behind(b),
-        State::AfterReturn if b == FEED => State::AtLine,
-        State::AfterReturn | State::Stopped => State::Stopped,
+impl State {
+    // The state of a number; one past the last stands at the start of a field.
+    fn numbered(n: u8) -> State
+        ensures { result ≡ state_of n }
+    {
+        match n {
+            AT_LINE => State::AtLine,
+            PLAIN => State::Plain,
+            IN_QUOTES => State::InQuotes,
+            AFTER_QUOTE => State::AfterQuote,
+            AFTER_RETURN => State::AfterReturn,
+            STOPPED => State::Stopped,
+            _ => State::AtField,
+        }
     }
+
+    // The number of the state.
+    fn number(self) -> u8
+        ensures { result ≡ number_of self }
+    {
+        match self {
+            State::AtLine => AT_LINE,
+            State::AtField => AT_FIELD,
+            State::Plain => PLAIN,
+            State::InQuotes => IN_QUOTES,
+            State::AfterQuote => AFTER_QUOTE,
+            State::AfterReturn => AFTER_RETURN,
+            State::Stopped => STOPPED,
+        }
+    }
+
+    // Where a byte leads.
+    #[tactic(auto, unfolding(crate::specs::Walk::next_of))]
+    pub fn after(self, b: u8) -> State
+        ensures { result ≡ next_of self b }
+    {
+        match self {
+            State::AtLine | State::AtField => opening(b),
+            State::Plain => going(b),
+            State::InQuotes => inside(b),
+            State::AfterQuote => behind(b),
+            State::AfterReturn if b == FEED => State::AtLine,
+            State::AfterReturn | State::Stopped => State::Stopped,
+        }
+    }
+}
+
+// Where a byte leads, by the numbers of the states: any number is taken.
+pub fn next(st: u8, b: u8) -> u8
+    ensures { result ≡ next_number st b }
+{
+    State::numbered(st).after(b).number()
 }
 
 // The byte stands in the sheet.
@@ -232,7 +286,7 @@ fn behind_stretch(st: State, stretch: &[u8]) -> State
     if st == State::InQuotes {
         return st;
     }
-    next(State::Plain, *last)
+    State::Plain.after(*last)
 }
 
 // What a stretch gives, put from `at` on: in quotes itself, and else with its commas turned to tabs.
@@ -264,7 +318,7 @@ pub fn scan(text: &[u8]) -> Result<Through, Halt>
             bytes += end - i;
             i = end;
         } else {
-            let n = next(st, text[i]);
+            let n = st.after(text[i]);
             if n == State::Stopped {
                 return Err(Halt { line: lines + 1 });
             }
@@ -303,7 +357,7 @@ pub fn put_sheet(out: &mut [u8], text: &[u8])
             i = end;
         } else {
             e = put_given(out, e, st, text[i]);
-            st = next(st, text[i]);
+            st = st.after(text[i]);
             i += 1;
         }
     }

@@ -27,7 +27,7 @@ module _ (old : List ℕ) (at n sum a b : ℕ) (fits : at + length (footer n sum
 
   -- the four bytes of the head
   module _ (headed : List ℕ) (headed_is : headed ≡ put old at head) where
-    headed_length : length headed ≡ length old
+    pub headed_length : length headed ≡ length old
     headed_length = grown_length old headed at head head_fits headed_is
 
     pub count_fits : (length (decimal n) ≤ at + 4 + a) × (at + 4 + a ≤ length headed)

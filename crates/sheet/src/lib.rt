@@ -25,9 +25,9 @@ pub struct Transferred {
 
 // What is known of a sheet whose made file is right: that file's records and checksum.
 #[derive(Clone, Copy)]
-struct Made {
-    records: usize,
-    sum: u32,
+pub struct Made {
+    pub records: usize,
+    pub sum: u32,
 }
 
 // The byte b stands among the bytes of s.

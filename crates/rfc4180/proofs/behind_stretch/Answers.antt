@@ -29,5 +29,5 @@ returns c =
     let u = c.args.stretch.now in
     let last = sym c.in-Some.ensures.value in
     let within = slice_get_within u (length u - 1) c.in-Some.last.now last in
-    c.next.ensures ∙ ap (next_of Plain) (sym (get_or_from_slice_get u (length u - 1) c.in-Some.last.now 0 last))
+    c.after.ensures ∙ ap (next_of Plain) (sym (get_or_from_slice_get u (length u - 1) c.in-Some.last.now 0 last))
     ∙ behind_last c.requires (λ e. omega arith) (sym (is_quotes c.args.st) ∙ sym c.eq.ensures ∙ c.if-eq.false)

@@ -75,8 +75,8 @@ loop-i-preserved c =
     let t = a.text.now in
     let p = c.put_given-e in (
       omega arith,
-      goes_part (given_of l.st (get_or t l.i 0)) (sheet_from c.next-st.result (drop (l.i + 1) t)) p.new.out p.result
-          (goes_as l.invariant.1 (sheet_next t l.i l.st c.next-st.result (omega arith) c.next-st.ensures)) p.ensures.0 p.ensures.1,
+      goes_part (given_of l.st (get_or t l.i 0)) (sheet_from c.after-st.result (drop (l.i + 1) t)) p.new.out p.result
+          (goes_as l.invariant.1 (sheet_next t l.i l.st c.after-st.result (omega arith) c.after-st.ensures)) p.ensures.0 p.ensures.1,
     )
 
 pub returns-then-eq : goal.returns-then-eq

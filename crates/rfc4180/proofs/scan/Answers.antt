@@ -45,7 +45,7 @@ pub returns-then-eq : goal.returns-then-eq
 returns-then-eq c =
     let l = c.loop-i in
     let t = c.args.text.now in
-    let here = stop_here t l.i l.st c.next-n.result (omega arith) c.next-n.ensures l.lines (sym (is_stopped c.next-n.result) ∙ sym c.eq.ensures ∙ c.if-eq.true) in
+    let here = stop_here t l.i l.st c.after-n.result (omega arith) c.after-n.ensures l.lines (sym (is_stopped c.after-n.result) ∙ sym c.eq.ensures ∙ c.if-eq.true) in
     (sym here ∙ l.invariant.3, λ q. omega arith)
 
 pub overflow_add-bytes-else-i-end : goal.overflow_add-bytes-else-i-end
@@ -58,8 +58,8 @@ pub loop-i-preserved : goal.loop-i-preserved
 loop-i-preserved c =
     let l = c.loop-i in
     let t = c.args.text.now in
-    let m = c.next-n.result in
-    let e = c.next-n.ensures in
+    let m = c.after-n.result in
+    let e = c.after-n.ensures in
     let h : l.i < length t = omega arith in
     let k = c.ended-lines.ensures in
     let g = c.given_size-bytes.ensures in (

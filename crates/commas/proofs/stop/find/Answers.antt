@@ -18,16 +18,16 @@ pub returns-then-eq : goal.returns-then-eq
 returns-then-eq c =
     let l = c.loop-i in
     let t = c.args.text.now in
-    let n = c.next-next in
+    let n = c.after-next in
     ap (λ (s : Stop). Some s) c.stop_by.ensures ∙ sym (stop_here t l.i l.st n.result l.mark (omega arith) n.ensures (sym (is_stopped n.result) ∙ sym c.eq.ensures ∙ c.if-eq.true)) ∙ l.invariant
 
 pub loop-i-preserved : goal.loop-i-preserved
 loop-i-preserved c =
     let l = c.loop-i in
     let t = c.args.text.now in
-    let m = c.next-next.result in
+    let m = c.after-next.result in
     ap (λ (k : ℕ). stop_from m (l.i + 1) k (drop (l.i + 1) t)) c.mark_of-mark.ensures
-    ∙ sym (stop_next t l.i l.st m l.mark (omega arith) c.next-next.ensures (sym (is_stopped m) ∙ sym c.eq.ensures ∙ c.if-eq.false)) ∙ l.invariant
+    ∙ sym (stop_next t l.i l.st m l.mark (omega arith) c.after-next.ensures (sym (is_stopped m) ∙ sym c.eq.ensures ∙ c.if-eq.false)) ∙ l.invariant
 
 pub returns : goal.returns
 returns c =
