@@ -12,13 +12,16 @@ use Rattle.std.specs.Prelude.{Result, Ok, Err}
 use Rattle.text.specs.Rules.{must}
 use Rattle.place.specs.Places.{whole}
 use Rattle.place.specs.declared.Refusal.{Refusal}
+use Rattle.layout.specs.Numbers.{layout_of}
+use Rattle.flow.specs.Publication.{Flow, layout_for}
 use Rattle.flow.specs.Editions.{Asked, a_flow, no_flow}
-use Rattle.judge.specs.File.{judged_for}
+use Rattle.judge.specs.File.{placed_by, judged_for}
 use Rattle.index.specs.declared.Entry.{Entry}
 use Rattle.index.specs.declared.Filled.{Filled}
-use Rattle.index.specs.Entries.{Kinds, entries_of, filled, indexed_by, list_by, entries_for, answer_for, paper, indexed, listed, FilledRight}
+use Rattle.index.specs.Entries.{Kinds, entries_of, filled, indexed_by, list_by, entries_by, answer_by, entries_for, answer_for, paper, indexed, listed, FilledRight}
 use Rattle.index.specs.Code.{blank, kinds_in, starting, advanced, after, to_store, HasKinds, stored, read, storing, FilledBy}
-use Rattle.index.proofs.Tables.{few_kinds}
+use Rattle.index.proofs.Tables.{unfixed, no_kinds, flow_kinds, few_kinds}
+use Rattle.index.proofs.Counts.{begun_refused, begun_flow}
 use Rattle.index.proofs.Reading.{entry_read}
 
 -- ---- entries stored one by one: the entry to be stored is always the one at the seam
@@ -72,6 +75,12 @@ unfolding indexed_by
 agrees (Err r) es room = record { fits = omega arith; there = omega arith; makes = refl }
 agrees (Ok n) es room = agrees_by (leb (length es) room) n es room refl
 
+-- by a table
+pub agreed_by : (t fixed f : List ℕ) (room : ℕ) (b : Result Filled Refusal) → b ≡ answer_by (layout_of t fixed) f room → Agrees (entries_of (kinds_in t) f) room b
+agreed_by t fixed f room b is =
+    subst (Agrees (entries_of (kinds_in t) f) room) (sym is)
+    (subst (λ (ks : Kinds). Agrees (entries_of ks f) room (answer_by (layout_of t fixed) f room)) (sym (unfixed t fixed)) (agrees (placed_by (layout_of t fixed) f) (entries_by (layout_of t fixed) f) room))
+
 -- for what is asked, by the kinds of its flow
 module _ (f : List ℕ) (room : ℕ) (ks : Kinds) where
   agrees_asked : (a : Asked) → HasKinds a ks → Agrees (entries_of ks f) room (answer_for a f room)
@@ -109,6 +118,20 @@ filled_right a f old b is t same new left = record {
       ∙ ap (λ (es : List Entry). es ++ drop (to_store (answer_for a f (length old))) old) (promised_asked f (length old) (kinds_in t) a same)
       ∙ list_made (answer_for a f (length old)) (entries_for a f) old;
 }
+
+-- ---- what `fill_list` shows of a list of any sort: refused words leave it as it was, and a flow's table has the flow's kinds and answer
+module _ {A : Type 0} (room : List A → ℕ) (with_entry : List A → ℕ → Entry → List A) (a : Asked) (f : List ℕ) (old : List A) where
+  pub none_filled : (r : Refusal) → no_flow r ≡ a → FilledBy room with_entry a f old old (Err r)
+  none_filled r e = record { numbers = []; kinds = no_kinds a (kinds_in []) r e; says = begun_refused a f (room old) r e; holds = refl }
+
+  pub flow_filled : (fl : Flow) → a_flow fl ≡ a → (t fixed : List ℕ) → layout_of t fixed ≡ layout_for fl → (b : Result Filled Refusal) → b ≡ answer_by (layout_of t fixed) f (room old)
+      → (new : List A) → new ≡ storing with_entry (read (kinds_in t) f) (to_store b) old → FilledBy room with_entry a f old new b
+  flow_filled fl e t fixed is b said new left = record {
+    numbers = t;
+    kinds = flow_kinds a fl e t fixed is;
+    says = begun_flow a f (room old) fl e (layout_of t fixed) is b said;
+    holds = left;
+  }
 
 -- so a list of entries that was filled one by one is right
 pub list_right : (a : Asked) (f : List ℕ) (old new : List Entry) (b : Result Filled Refusal) → FilledBy length set a f old new b → FilledRight a f old new b

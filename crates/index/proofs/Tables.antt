@@ -90,7 +90,7 @@ module _ (ks : Kinds) (k : ℕ) where
 
   -- some of n heads from i on is k, however a head is read
   module _ (head : ℕ → ℕ) (is : (j : ℕ) → head j ≡ head_of ks j) where
-    heads_from : (i n : ℕ) → i + n ≡ length ks.heads → list_any (λ j. nat_eq (head j) k) (range_with_len i n) ≡ some_is k (drop i ks.heads)
+    pub heads_from : (i n : ℕ) → i + n ≡ length ks.heads → list_any (λ j. nat_eq (head j) k) (range_with_len i n) ≡ some_is k (drop i ks.heads)
     unfolding some_is
     heads_from i zero e = rw (drop_of_length-le ks.heads {i = i} (omega (arith, e))) refl
     heads_from i (suc n) e =

@@ -114,28 +114,33 @@ pub fn start(t: &[u32]) -> Filling
     }
 }
 
-// The state once record n has been entered: its kind is k, it stands from a up to e, and has so many children.
-fn enter(t: &[u32], s: Filling, n: usize, k: usize, a: usize, e: usize, children: usize) -> Filling
+// The state once record n has been entered: its kind is k, it stands from a up to e, and has so many children. The state is changed where
+// it stands: made anew, its lists would be copied once more for each entry.
+fn enter(
+    t: &[u32],
+    mut s: Filling,
+    n: usize,
+    k: usize,
+    a: usize,
+    e: usize,
+    children: usize,
+) -> Filling
     requires { (s.entries < n) × (k ≤ 32) × (a ≤ e) × (e + 1 < 2 ^ 64) }
     ensures { result ≡ entered (kinds_in t.now) s n a (e - a) k children }
 {
     let own = s.entries + 1;
     let parent = parent_in(&s.last, layout::head_of(t, k), own);
-    let mut last = s.last;
-    last[k] = own;
-    Filling {
-        records: n,
-        at: e + 1,
-        entries: own,
-        last,
-        entry: Entry {
-            record: n,
-            place: a,
-            parent,
-            children,
-        },
-        ..s
-    }
+    s.records = n;
+    s.at = e + 1;
+    s.entries = own;
+    s.last[k] = own;
+    s.entry = Entry {
+        record: n,
+        place: a,
+        parent,
+        children,
+    };
+    s
 }
 
 // Reads on to the next record that may have children, and enters it. Its children are counted from where the iterator then stands, which a
@@ -278,12 +283,13 @@ fn store_first<T: Slot>(list: &mut [T], t: &[u32], f: &[u8], n: usize)
 }
 
 // Fills a lent list with the index of a file for the flow that the words ask for; where that is refused, nothing is put.
+#[tactic(auto, using(crate::proofs::Stored::none_filled, crate::proofs::Stored::flow_filled))]
 fn fill_list<T: Slot>(flow: &[u8], f: &[u8], list: &mut [T]) -> Result<Filled, Refusal>
     ensures { FilledBy T.room T.with_entry (asked flow.now) f.now list.old list.new result }
 {
-    let numbers = numbers_for(flow);
-    let filled = begin(flow, f, T::room(list))?;
-    store_first(list, &numbers, f, filled.entries);
+    let table = flow::table_of(flow::find(flow)?);
+    let filled = begin_by(&table.numbers, &table.fixed, f, T::room(list))?;
+    store_first(list, &table.numbers, f, filled.entries);
     Ok(filled)
 }
 

@@ -27,7 +27,7 @@ use Rattle.resubmission.specs.InForce.{found, handed, by_rows, read, in_force_by
 use Rattle.resubmission.specs.Code.{span_of, told_of, handed_at, handed_by}
 
 -- the answer by what is told of some rows is the answer by the rows
-told_handed : (file : Which) (rows : List Row) (n : ℕ) → handed_by file (told_of rows n) ≡ handed file rows n
+pub told_handed : (file : Which) (rows : List Row) (n : ℕ) → handed_by file (told_of rows n) ≡ handed file rows n
 unfolding handed
 told_handed file rows n = by (from_to 1 (length rows) n) (row_at rows n)
   where
@@ -54,7 +54,7 @@ module _ (old new : List Row) (n : ℕ) (told : Rows) (is : told ≡ told_of new
       by (r ∷ rs) q = refl
 
 -- a file that is judged before what comes after: its refusal is the answer, or what comes after is
-abbrev alone : Which → Result ℕ Refusal → Result Unit NotFound
+abbrev pub alone : Which → Result ℕ Refusal → Result Unit NotFound
 alone file j = read file j (Ok tt)
 
 read_refused : (file : Which) (j : Result ℕ Refusal) (after : Result Found NotFound) (why : NotFound) → Err why ≡ alone file j → Err why ≡ read file j after

@@ -1,7 +1,7 @@
 -- Which field of an SB1 is the id, by the number of the flow; the subject of an SB1; the flow that an edition asks for. Assumes nothing.
 use Prim.Native.Nat.{ℕ, ◌<◌, ◌≤◌}
 use mathlib.Core.Path.{◌≡◌, refl, sym, ap, ◌∙◌}
-use mathlib.Core.Bool.{Bool, true, false}
+use mathlib.Core.Bool.{Bool, true, false, cond}
 use mathlib.Core.List.{List, ◌∷◌, ◌++◌}
 use native.Mathlib.Decide.{ℕ_discrete}
 use native.Mathlib.Omega.{arith}
@@ -10,13 +10,15 @@ use borrow.Author.Tests.{ne_eqb}
 use Rattle.text.specs.Order.{same_bytes}
 use Rattle.text.proofs.Lists.{same→≡}
 use Rattle.text.proofs.Tests.{holds}
+use Rattle.record.specs.Records.{field, bar}
 use Rattle.place.specs.Places.{whole}
 use Rattle.place.specs.declared.Refusal.{Refusal}
 use Rattle.flow.specs.Letters.{P0133001, E533, E711}
+use Rattle.flow.specs.Publication.{Flow}
 use Rattle.flow.specs.Flows.{flow_at, flow_number}
 use Rattle.flow.specs.Editions.{no_flow, asked}
 use Rattle.flow.proofs.Held.{flow_first}
-use Rattle.resubmission.specs.Rows.{first_free, id_field}
+use Rattle.resubmission.specs.Rows.{first_free, id_field, date_field, is_sb1, is_subject}
 use Rattle.resubmission.specs.InForce.{words_in}
 
 -- only P0133001 has an SB1: it is number 3, and in edition 711 number 7
@@ -41,13 +43,21 @@ id_small m = by (ℕ_discrete m 3) (ℕ_discrete m 7)
     by (no three) (yes e) = rw e (omega arith)
     by (no three) (no seven) = rw (no_id m three seven) (omega arith)
 
+-- an SB1 by its id and date
+module _ (flow : Flow) (id date r : List ℕ) (before : Bool) (is : is_sb1 r ≡ true) where
+  pub another_id : same_bytes id (field bar (id_field flow) r) ≡ false → false ≡ cond (is_sb1 r) (is_subject flow id date r) before
+  another_id e = rw (is, e)
+
+  pub that_id : same_bytes id (field bar (id_field flow) r) ≡ true → same_bytes date (field bar (date_field flow) r) ≡ cond (is_sb1 r) (is_subject flow id date r) before
+  that_id e = rw (is, e)
+
 -- the words for an edition that is none of these
 module _ (e : List ℕ) where
   with_space : same_bytes E533 e ≡ false → same_bytes E711 e ≡ false → no_flow (whole 21) ≡ asked (P0133001 ++ 0x20 ∷ e)
   unfolding asked flow_number
   with_space a b = rw (ne_eqb (length (P0133001 ++ 0x20 ∷ e)) 8 (λ h. omega (arith, h)), a, b)
 
-  no_edition : (length e ≡ 0 → ⊥) → same_bytes E533 e ≡ false → same_bytes E711 e ≡ false → no_flow (whole 21) ≡ asked (words_in e)
+  pub no_edition : (length e ≡ 0 → ⊥) → same_bytes E533 e ≡ false → same_bytes E711 e ≡ false → no_flow (whole 21) ≡ asked (words_in e)
   no_edition some a b = let spelt : P0133001 ++ 0x20 ∷ e ≡ words_in e = rw (ne_eqb _ _ some) in with_space a b ∙ ap asked spelt
 
 -- by its bytes

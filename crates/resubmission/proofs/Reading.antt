@@ -15,7 +15,7 @@ use Rattle.record.specs.Step.{IsRecord}
 use Rattle.record.proofs.Cursors.{records_end, part_length}
 use Rattle.record.proofs.Search.{extent_snoc}
 use Rattle.flow.specs.Publication.{Flow}
-use Rattle.resubmission.specs.Rows.{Pair, Row, row, is_sb1, is_subject, is_of_group, last_sb1, under_subject, rows_from, row_at}
+use Rattle.resubmission.specs.Rows.{Pair, Row, row, is_sb1, is_subject, is_of_group, last_sb1, under_subject, rows_from, rows_in, row_at}
 use Rattle.resubmission.specs.Code.{span_of, nth_of, told_of, one_more}
 use Rattle.resubmission.specs.declared.Rows.{Rows}
 
@@ -139,6 +139,12 @@ module _ (flow : Flow) (p : Pair) (f : List ℕ) (n : ℕ) where
       at_zero (suc i) = rw (le-leb 1 (suc i) (omega arith), lt-leb (suc i) 0 (omega arith))
 
   module _ (at : ℕ) (under : Bool) (told : Rows) (x : Reading flow p f n at under told) where
+    -- no records are left
+    pub all_read : records (drop at f) ≡ [] → told ≡ told_of (rows_in flow p f) n
+    all_read e =
+        let all : x.before ≡ records f = sym (append-nil x.before) ∙ ap (λ (l : List (List ℕ)). x.before ++ l) (sym e) ∙ x.every in
+        x.tells ∙ ap (λ (l : List (List ℕ)). told_of (rows_from flow p [] l) n) all
+
     module _ {a e m : ℕ} (y : IsRecord f at a e m) where
       abbrev r : List ℕ
       r = take (e - a) (drop a f)
