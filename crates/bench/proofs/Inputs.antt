@@ -70,7 +70,7 @@ module _ (s : List ℕ) (start end : ℕ) (stands : Stands (records s) s 1 start
       pub too_long : 65536 < length file → refused 2 0 0 0 ≡ benched s
       too_long h = (rw (lt-leb (length file) 65536 h)) ∙ ap (λ (a : Asked). benched_for a file) is ∙ answered
 
-      pub the_file : length file ≤ 65536 → judged (a_flow fl) file ≡ benched s
+      pub the_file : length file ≤ 65536 → judged (asked words) file ≡ benched s
       the_file h =
           let said : judged (a_flow fl) file ≡ benched_for (a_flow fl) file = rw (le-leb (length file) 65536 h) in
-          said ∙ ap (λ (a : Asked). benched_for a file) is ∙ answered
+          ap (λ (a : Asked). judged a file) (sym is) ∙ said ∙ ap (λ (a : Asked). benched_for a file) is ∙ answered

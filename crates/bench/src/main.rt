@@ -19,12 +19,12 @@ fn answer(input: &[u8]) -> Result<usize, Refusal>
         return Err(place::whole(1));
     }
     let words = line.of(input);
-    let table = flow::table_of(flow::find(words)?);
+    flow::find(words)?;
     let file = &input[line.end + 1..];
     if 65536 < file.len() {
         return Err(place::whole(2));
     }
-    judge::judge_by(&table.numbers, &table.fixed, file)
+    judge::judge(words, file)
 }
 
 // Prints what is said of the file: the run ends well where it is accepted.

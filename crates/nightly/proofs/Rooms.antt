@@ -1,5 +1,5 @@
 -- A room filled byte by byte, and looked at byte by byte. Assumes nothing.
-use Rattle.std.proofs.Common.{◌≡◌, ℕ, ◌+◌, ◌<◌, Bool, true, false, ◌&&◌, map, sym, ap, eqb, List, length, get_or, drop, set, refl, ◌∙◌, add-one, arith, drop-cons, get_or-set_other, get_or-set_same, eqb-true}
+use Rattle.std.proofs.Common.{◌≡◌, ℕ, ◌+◌, ◌<◌, ◌≤◌, Bool, true, false, ◌&&◌, map, sym, ap, eqb, List, length, get_or, drop, set, refl, ◌∙◌, add-one, arith, drop_of_length-le, drop-cons, get_or-set_other, get_or-set_same, eqb-true}
 use borrow.Author.Tests.{eqb-false}
 use lib.ListN.{length-map}
 use Rattle.std.proofs.lemmas.List.{get_or-map}
@@ -13,6 +13,10 @@ module _ {X : Type 0} (number : X → ℕ) (room : List X) (i : ℕ) (x : X) (in
       let h : i < length (map number room) = simp length-map inside in
       let here : number x ≡ get_or (map number room) i 0 = ap number is ∙ sym (get_or-map number room i x 0 inside) in
       rw (add-one, drop-cons (map number room) i 0 h, ← here, ← e)
+
+-- past the end there is nothing left that does not hold it
+pub kept_end : (room : List ℕ) (i : ℕ) → length room ≤ i → patterned i (drop i room) ≡ true
+kept_end room i h = rw (drop_of_length-le room h)
 
 -- the bytes before i hold the pattern
 abbrev pub Front : List ℕ → ℕ → Type 0

@@ -4,7 +4,7 @@ ghost use Rattle.std.specs.Prelude.{◌≡◌, ℕ, ◌==◌, drop, map};
 ghost use Rattle.nightly.specs.Room.{pattern as pattern_of, patterned, Filled};
 
 // What a room has many of: a number, which may be that of a byte.
-pub trait Cell: Copy {
+trait Cell: Copy {
     ghost number: { Self → ℕ };
 
     // The cell of a byte.
@@ -56,14 +56,13 @@ pub fn fill<T: Cell>(room: &mut [T])
     }
 }
 
-// Whether the room holds the pattern from a place on.
+// Whether the room holds the pattern from a place on. Each cell is looked at, without a branch, since as a rule all hold it.
 pub fn kept<T: Cell>(room: &[T], at: usize) -> bool
     ensures { result ≡ patterned at (drop at (map T.number room.now)) }
 {
+    let mut all = true;
     for i in at..room.len() {
-        if !room[i].is(pattern(i)) {
-            return false;
-        }
+        all &= room[i].is(pattern(i));
     }
-    true
+    all
 }

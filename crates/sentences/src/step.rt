@@ -4,10 +4,10 @@ use stream::{Unwritten, print};
 
 // Kind n of a list, counted from 1; no bytes where there is none.
 fn kind_in<'a>(list: &'a [u8], n: usize) -> &'a [u8] {
-    if n == 0 {
+    if n == 0 || list.len() / 3 < n - 1 {
         return b"";
     }
-    list.chunks(3).nth(n - 1).unwrap_or(b"")
+    text::part(list, 3 * (n - 1), 3)
 }
 
 // The kind that stopped the list; where it is cut short, that is said.

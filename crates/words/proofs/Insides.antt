@@ -66,3 +66,7 @@ module _ (name s : List ℕ) where
       MatchOption r (bracketed name s ≡ false) (λ x. (bracketed name s ≡ true) × (x.now ≡ inside name s))
   ended unclosed begun rest e None h = sym (closed unclosed begun) ∙ (rw e at h)
   ended unclosed begun rest e (Some x) h = (sym (closed unclosed begun) ∙ (rw e at h.0), (rw e at h.1) ∙ between)
+
+-- a word that is no longer than a name has nothing behind it
+pub nothing_inside : (name s : List ℕ) → length s ≤ length name → [] ≡ inside name s
+nothing_inside name s h = let z : length s - 1 - length name ≡ 0 = omega arith in rw z

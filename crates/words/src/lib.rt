@@ -1,7 +1,8 @@
 // The words that people write: one of several, a number, a type in document 01's spelling, a mark.
 #![tactic(auto)]
 
-ghost use Rattle.std.specs.Prelude.{◌≡◌, ◌+◌, ◌*◌, true, false, leb, Some, MatchOption};
+ghost use Rattle.std.specs.Prelude.{◌≡◌, ◌+◌, ◌*◌, ◌-◌, true, false, leb, Some, MatchOption};
+ghost use Rattle.text.specs.Characters.{is_digit};
 ghost use Rattle.record.specs.Records.{field};
 ghost use Rattle.words.specs.Spelling.{number_of, width_of, dec_of, ends_in, bracketed, inside as inside_of, wide_of, form_of, mark_of};
 
@@ -14,6 +15,17 @@ pub fn part<'a>(sep: u8, s: &'a [u8], k: usize) -> &'a [u8]
     match record::field_at(sep, s, k) {
         Some(found) => found.of(s),
         None => &s[..0],
+    }
+}
+
+// What a byte counts as a digit, where it is one.
+#[tactic(auto, unfolding(text::specs::Characters::is_digit))]
+fn digit_of(b: u8) -> Option<usize>
+    ensures { MatchOption result (is_digit b ≡ false) (λ d. (is_digit b ≡ true) × (d ≡ b - 48)) }
+{
+    match b {
+        b'0'..=b'9' => Some(usize::from(b - b'0')),
+        _ => None,
     }
 }
 
@@ -36,10 +48,7 @@ pub fn read_number(s: &[u8], most: usize, limit: usize) -> Option<usize>
     }
     let mut n: usize = 0;
     for b in s {
-        if !b.is_ascii_digit() {
-            return None;
-        }
-        let d = usize::from(*b - b'0');
+        let d = digit_of(*b)?;
         if !in_limit(n, d, limit) {
             return None;
         }

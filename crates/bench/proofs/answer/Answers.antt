@@ -1,13 +1,12 @@
 -- The first line is the first record; each return is one test of the bench. Assumes nothing.
-use mathlib.Core.Path.{refl, sym, ap, ◌∙◌}
+use mathlib.Core.Path.{sym, ap, ◌∙◌}
 use native.Mathlib.Omega.{arith}
 use Rattle.record.specs.Records.{records}
 use Rattle.record.specs.Found.{Stands}
 use Rattle.place.specs.declared.Refusal.{Refusal}
 use Rattle.flow.specs.Flows.{flow_at}
-use Rattle.flow.specs.Editions.{a_flow, asked, told}
+use Rattle.flow.specs.Editions.{asked, told}
 use Rattle.judge.specs.File.{Reply, paper}
-use Rattle.judge.proofs.Flows.{by_flow}
 use Rattle.std.specs.Prelude.{Err}
 use Rattle.std.proofs.lemmas.Result.{err_from_is_err_and}
 use Rattle.bench.proofs.Inputs.{no_line, not_ended, no_flow_lem, too_long, the_file}
@@ -48,6 +47,6 @@ pub returns : goal.returns
 returns c =
     let line : Stands (records c.args.input.now) c.args.input.now 1 c.in-Some.line.start c.in-Some.line.end = c.in-Some.ensures in
     let a = c.args in
-    by_flow (a_flow (flow_at c.in_ok-find.field-0)) _ (flow_at c.in_ok-find.field-0) refl _ c.table_of-table.ensures c.judge_by.result c.judge_by.ensures
+    (rw c.of-words.ensures at c.judge.ensures)
     ∙ the_file a.input.now c.in-Some.line.start c.in-Some.line.end line c.if-line-input.false (flow_at c.in_ok-find.field-0)
     (ap told (sym c.in_ok-find.was) ∙ c.find.ensures ∙ ap asked c.of-words.ensures) c.if-file-gt65536.false
